@@ -1,0 +1,46 @@
+-- A memory with bytes put into it, and a part of a memory.
+use Prim.Native.Nat.{ℕ, suc, _+_, _-_, _<_, _≤_}
+use mathlib.Core.Path.{_≡_, refl, sym, _∙_, ap}
+use mathlib.Core.Bool.{cond}
+use mathlib.Core.List.{List, [], _∷_, _++_, append-assoc}
+use native.Mathlib.Nat.{add-zero, add-assoc}
+use native.Mathlib.Numerals.{add-one}
+use native.Mathlib.Omega.{arith}
+use lib.ListN.{length, getD, set, take, drop, length-append, length-take, length-drop}
+use lib.Dec.{leb}
+use lib.Seq.{paste, paste-zero, paste-suc, length-paste, take-paste, drop-paste, drop-drop, take-length, take-append-add}
+
+-- `d` with its `n` bytes from `at` replaced by the first `n` of `s`
+unfoldable pub pasted : List ℕ → ℕ → List ℕ → ℕ → List ℕ
+pasted d at s n = paste d at s n
+
+-- the `len` bytes of `s` from `start`; none where one of them lies outside
+unfoldable pub partOf : List ℕ → ℕ → ℕ → List ℕ
+partOf s start len = cond (leb start (length s)) (cond (leb len (length s - start)) (take len (drop start s)) []) []
+
+-- nothing put in
+pub pasted-zero : (d : List ℕ) (at : ℕ) (s : List ℕ) → d ≡ pasted d at s 0
+unfolding pasted
+pasted-zero d at s = paste-zero d at s
+
+-- one byte more
+pub pasted-one : (d : List ℕ) (at : ℕ) (s : List ℕ) (n : ℕ) → at + n < length d → n < length s
+    → set (pasted d at s n) (at + n) (getD s n 0) ≡ pasted d at s (n + 1)
+unfolding pasted
+pasted-one d at s n hd hs = rw add-one (paste-suc d at s n 0 hd hs)
+
+pub length-pasted : (d : List ℕ) (at : ℕ) (s : List ℕ) (n : ℕ) → at + n ≤ length d → n ≤ length s → length (pasted d at s n) ≡ length d
+unfolding pasted
+length-pasted d at s n hd hs = length-paste d at s n hd hs
+
+-- one list and then another, put in one behind the other
+pub pasted-append : (d : List ℕ) (at : ℕ) (s t : List ℕ) → at + length s + length t ≤ length d
+    → pasted (pasted d at s (length s)) (at + length s) t (length t) ≡ pasted d at (s ++ t) (length s + length t)
+unfolding pasted
+pasted-append d at s t h =
+    let m : ℕ = length s in
+    let n : ℕ = length t in
+    let q : drop (at + m + n) (paste d at s m) ≡ drop (at + m + n) d =
+    sym (drop-drop n (at + m) (paste d at s m)) ∙ ap (drop n) (drop-paste d at s m (omega arith) (omega arith)) ∙ drop-drop n (at + m) d in
+    rw (take-paste d at s m (omega arith) (omega arith), q, take-append-add s t n, take-length s, take-length t, ← add-assoc at m n)
+    (ap (λ (l : List ℕ). l ++ drop (at + m + n) d) (append-assoc (take at d) s t))
