@@ -1,10 +1,10 @@
 -- A turn of a loop that copies, at the code's `i + 1`.
 use Prim.Native.Nat.{ℕ, _+_, _-_, _<_, _≤_}
-use mathlib.Core.Path.{_≡_, refl, sym, _∙_, ap, subst}
-use mathlib.Core.List.{List, _++_, append-assoc}
+use mathlib.Core.Path.{_≡_, sym, _∙_, subst}
+use mathlib.Core.List.{List, _++_}
 use native.Mathlib.Numerals.{add-one}
 use native.Mathlib.Omega.{arith}
-use lib.ListN.{length, getD, set, take, drop, length-append, length-take, length-drop}
+use lib.ListN.{length, getD, set, take, drop, length-drop}
 use lib.Seq.{paste, paste-suc, getD-drop, getD-append-add, length-paste-head}
 
 pub turn : (d₀ d s : List ℕ) (at i : ℕ) → at + i < length d₀ → i < length s → d ≡ paste d₀ at s i → set d (at + i) (getD s i 0) ≡ paste d₀ at s (i + 1)

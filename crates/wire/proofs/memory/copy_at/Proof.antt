@@ -1,15 +1,14 @@
+-- Why `copy_at` meets its contract: the loop has put in the first `i` bytes.
 use denote.Ref.{now}
 use Rattle.wire.specs.Memory.{pasted}
-use Prim.Native.Nat.{ℕ, _+_, _-_, _<_, _≤_}
-use mathlib.Core.Path.{_≡_, refl, sym, _∙_}
+use Prim.Native.Nat.{_-_, _≤_}
+use mathlib.Core.Path.{_≡_, refl}
 use native.Mathlib.Omega.{arith}
-use lib.ListN.{length, drop, length-set, length-drop}
+use lib.ListN.{length, length-set}
 use lib.Seq.{paste, paste-zero}
-use Rattle.wire.proofs.Copy.{turn, turn-down}
+use Rattle.wire.proofs.Copy.{turn}
 use Rattle.wire.proofs.memory.copy_at.Statement.{statement}
 use Rattle.wire.proofs.memory.copy_at.Tie as tie
-use Rattle.wire.proofs.memory.copy_at.Reads as reads
-use Rattle.wire.proofs.memory.copy_at.Lts as lts
 
 abbrev Inv-loop : tie.InvT-loop
 Inv-loop dst₀ at src i₀ dst i = (i ≤ length src) × (length dst ≡ length dst₀) × (dst ≡ paste dst₀ at src i)
@@ -17,39 +16,30 @@ Inv-loop dst₀ at src i₀ dst i = (i ≤ length src) × (length dst ≡ length
 abbrev μ-loop : tie.MeasureT-loop
 μ-loop dst₀ at src i₀ dst i = length src - i
 
--- src/lib.rt:12:5
 loop-holds : tie.Need-loop-holds Inv-loop μ-loop
 loop-holds c = (omega arith, refl, paste-zero (now (c .args .dst)) (c .args .at) (now (c .args .src)))
 
--- src/lib.rt:13:23
 shared-slice-read-dst : tie.Need-shared-slice-read-dst Inv-loop μ-loop
 shared-slice-read-dst c = omega arith
 
--- src/lib.rt:13:13
 add-dst : tie.Need-add-dst Inv-loop μ-loop
 add-dst c = omega arith
 
--- src/lib.rt:13:9
 slice-write-dst : tie.Need-slice-write-dst Inv-loop μ-loop
 slice-write-dst c = omega arith
 
--- src/lib.rt:14:9
 add-i : tie.Need-add-i Inv-loop μ-loop
 add-i c = omega arith
 
--- src/lib.rt:12:5
 loop-less : tie.Need-loop-less Inv-loop μ-loop
 loop-less c = omega arith
 
--- src/lib.rt:12:5
 loop-again : tie.Need-loop-again Inv-loop μ-loop
 loop-again c = (omega arith, simp length-set (omega arith), turn _ _ _ _ _ (omega arith) (omega arith) (c .before .before .loop .inv .2))
 
--- src/lib.rt:7:1
 same-length : tie.Need-same-length Inv-loop μ-loop
 same-length c = omega arith
 
--- src/lib.rt:7:1
 returns : tie.Need-returns Inv-loop μ-loop
 unfolding pasted
 returns c =
