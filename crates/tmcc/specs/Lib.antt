@@ -1,0 +1,5 @@
+pub mod Count
+pub mod Mode
+pub mod Stream
+pub mod Layout
+pub mod Block
