@@ -2,7 +2,7 @@
 ghost use mathlib.Core.Path.{_≡_};
 ghost use Prim.Native.Nat.{_<_, _≤_};
 ghost use lib.ListN.{length};
-ghost use Rattle.tmcc.specs.Mode.{dataBytes, used, unused, modeGood, modesGood, modeOf, slotLength};
+ghost use Rattle.tmcc.specs.Mode.{dataBytes, within, used, unused, modeGood, modesGood, modeOf, slotLength};
 use wire::field;
 
 // Data bytes of a slot by code rate, 1 to 11. Entry 0 is no rate.
@@ -32,16 +32,21 @@ pub fn data_bytes(rate: u8) -> u16
     }
 }
 
+// Whether `x` is 1 to `most`.
+fn is_within(most: u8, x: u8) -> bool
+    ensures { λ r. ⌜ r ≡ within most x ⌝ }
+{
+    1 <= x && x <= most
+}
+
 // A used mode: modulation 1 to 5, code rate 1 to 11, a positive multiple of 5 slots.
 fn is_used(mode: u8, count: u8) -> bool
     ensures { λ r. ⌜ r ≡ used mode count ⌝ }
 {
-    let modulation = mode >> 4 & 15;
-    let rate = mode & 15;
-    if modulation < 1 || 5 < modulation {
+    if !is_within(5, mode >> 4 & 15) {
         return false;
     }
-    if rate < 1 || 11 < rate {
+    if !is_within(11, mode & 15) {
         return false;
     }
     0 < count && count % 5 == 0
@@ -51,7 +56,10 @@ fn is_used(mode: u8, count: u8) -> bool
 fn is_unused(mode: u8, count: u8, off: u8) -> bool
     ensures { λ r. ⌜ r ≡ unused mode count off ⌝ }
 {
-    mode == 0xff && count == 0 && off == 0
+    if mode != 0xff {
+        return false;
+    }
+    count == 0 && off == 0
 }
 
 // Whether mode `k` keeps the rules beside the mode before it.
@@ -67,8 +75,9 @@ fn is_good(block: &[u8], k: usize) -> bool
     if k == 0 {
         return true;
     }
-    let before = block[3 * k - 2];
-    let many = block[3 * k - 1];
+    let j = k - 1;
+    let before = block[1 + 3 * j];
+    let many = block[2 + 3 * j];
     is_used(before, many) && mode < before
 }
 

@@ -1,11 +1,12 @@
+-- Why blank meets its contract: both sides are the same three lists.
+use mathlib.Core.Path.{refl}
+use Rattle.tmcc.specs.Layout.{blankLayout}
 use Rattle.tmcc.proofs.layout.blank.Statement.{statement}
 use Rattle.tmcc.proofs.layout.blank.Tie as tie
-use Rattle.tmcc.proofs.layout.blank.Reads as reads
-use Rattle.tmcc.proofs.layout.blank.Lts as lts
 
--- src/layout.rt:30:1
 returns : tie.Need-returns
-returns c = ?
+unfolding blankLayout
+returns c = refl
 
 pub blank-spec : {M : Type 1} → statement M
 blank-spec = tie.close (tie.spec returns)

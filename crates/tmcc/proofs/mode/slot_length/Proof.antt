@@ -1,42 +1,44 @@
+-- Why slot_length meets its contract: the mode of the slot, its halves, and the table.
+use Prim.Native.Nat.{_*_, _+_}
+use mathlib.Core.Path.{sym}
+use native.Mathlib.Omega.{arith}
+use lib.ListN.{getD}
+use Rattle.wire.specs.Bits.{bits-shift}
+use Rattle.tmcc.specs.Mode.{bits-mask, length-live, length-dummy}
 use borrow.Author.Needs.{needs}
 use Rattle.tmcc.proofs.mode.slot_length.Statement.{statement}
 use Rattle.tmcc.proofs.mode.slot_length.Tie as tie
-use Rattle.tmcc.proofs.mode.slot_length.Reads as reads
-use Rattle.tmcc.proofs.mode.slot_length.Lts as lts
-use Rattle.tmcc.proofs.mode.data_bytes.Reads as data-bytes-reads
-use Rattle.tmcc.proofs.mode.of_slot.Reads as of-slot-reads
 
--- src/mode.rt:104:9
 of-slot-requires : tie.Need-of-slot-requires
 of-slot-requires c κs = search needs
 
--- src/mode.rt:105:26
 mul-mode : tie.Need-mul-mode
 mul-mode c = search needs
 
--- src/mode.rt:105:22
 add-mode : tie.Need-add-mode
 add-mode c = search needs
 
--- src/mode.rt:105:16
 shared-slice-read-mode : tie.Need-shared-slice-read-mode
 shared-slice-read-mode c = search needs
 
--- src/mode.rt:106:16
 cast-if1 : tie.Need-cast-if1
-cast-if1 c = ?
+cast-if1 c =
+    let mode = getD (c .before .before .before .args .block .now) (1 + 3 * c .before .of-slot .result) 0 in
+    omega (arith, bits-shift mode 4 4)
 
--- src/mode.rt:107:9
 data-bytes-requires : tie.Need-data-bytes-requires
 data-bytes-requires c κs = search needs
 
--- src/mode.rt:100:1
 returns : tie.Need-returns
-returns c = ?
+returns c =
+    let o = c .before .before .before .of-slot in
+    rw (c .data-bytes .ensures, bits-mask _ 4)
+    (sym (length-live _ _ (o .result) (o .ensures .0) (rw (bits-shift _ 4 4) at (c .before .if1 .taken))))
 
--- src/mode.rt:100:1
 returns-2 : tie.Need-returns-2
-returns-2 c = ?
+returns-2 c =
+    let o = c .before .before .of-slot in
+    sym (length-dummy _ _ (o .result) (o .ensures .0) (rw (bits-shift _ 4 4) at (c .if1 .left)))
 
 pub slot-length-spec : {M : Type 1} → statement M
 slot-length-spec =

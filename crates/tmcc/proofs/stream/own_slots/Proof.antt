@@ -1,42 +1,53 @@
+-- Why own_slots meets its contract: the loop holds the count of the slots passed.
+use Prim.Native.Nat.{_-_, _≤_}
+use mathlib.Core.Path.{_≡_, refl, sym, _∙_}
+use mathlib.Core.Logic.{⊎-elim}
+use native.Mathlib.Omega.{arith}
+use Rattle.tmcc.specs.Count.{countBelow, count-one}
+use Rattle.tmcc.specs.Stream.{ownSlot}
 use Rattle.tmcc.proofs.stream.own_slots.Statement.{statement}
 use Rattle.tmcc.proofs.stream.own_slots.Tie as tie
-use Rattle.tmcc.proofs.stream.own_slots.Reads as reads
-use Rattle.tmcc.proofs.stream.own_slots.Lts as lts
-use Rattle.tmcc.proofs.stream.is_own.Reads as is-own-reads
 
 abbrev Inv-loop : tie.InvT-loop
-Inv-loop block own count₀ s₀ count s = ?
+Inv-loop block own count₀ s₀ count s = (s ≤ 120) × (count ≤ s) × (count ≡ countBelow (ownSlot block own) s)
 
 abbrev μ-loop : tie.MeasureT-loop
-μ-loop block own count₀ s₀ count s = ?
+μ-loop block own count₀ s₀ count s = 120 - s
 
--- src/stream.rt:68:5
 loop-holds : tie.Need-loop-holds Inv-loop μ-loop
-loop-holds c = ?
+unfolding countBelow
+loop-holds c = (omega arith, omega arith, refl)
 
--- src/stream.rt:69:12
 is-own-requires : tie.Need-is-own-requires Inv-loop μ-loop
-is-own-requires c κs = ?
+is-own-requires c κs = (omega arith, c .before .before .before .pre)
 
--- src/stream.rt:70:13
 add-count : tie.Need-add-count Inv-loop μ-loop
-add-count c = ?
+add-count c = omega arith
 
--- src/stream.rt:72:9
 add-s : tie.Need-add-s Inv-loop μ-loop
-add-s c = ?
+add-s c = omega arith
 
--- src/stream.rt:68:5
 loop-less : tie.Need-loop-less Inv-loop μ-loop
-loop-less c = ?
+loop-less c = omega arith
 
--- src/stream.rt:68:5
 loop-again : tie.Need-loop-again Inv-loop μ-loop
-loop-again c = ?
+loop-again c =
+    let d = c .before in
+    let l = d .before .before .loop in
+    ⊎-elim
+    (λ w.
+    let e = sym (d .is-own .ensures) ∙ w .0 .taken in
+    (omega arith, omega arith, rw (w .1, count-one, e, l .inv .2)))
+    (λ w.
+    let e = sym (d .is-own .ensures) ∙ w .0 .left in
+    (omega arith, omega arith, rw (w .1, count-one, e, l .inv .2)))
+    (c .if1 .came)
 
--- src/stream.rt:62:1
 returns : tie.Need-returns Inv-loop μ-loop
-returns c = ?
+returns c =
+    let l = c .before .loop in
+    let e : l .s ≡ 120 = omega arith in
+    rw e at (l .inv .2)
 
 pub own-slots-spec : {M : Type 1} → statement M
 own-slots-spec =
