@@ -37,15 +37,15 @@ below-one i k h same less = ⊎-elim same less (eq-or-lt-of-le (le-of-suc-le-suc
 -- one number more
 pub all-one : (p : ℕ → Bool) (k : ℕ) → allBelow p (k + 1) ≡ (allBelow p k && p k)
 unfolding allBelow
-all-one p k = rw add-one
+all-one p k = rw (add-one k)
 
 pub count-one : (p : ℕ → Bool) (k : ℕ) → countBelow p (k + 1) ≡ cond (p k) (countBelow p k + 1) (countBelow p k)
 unfolding countBelow
-count-one p k = rw add-one
+count-one p k = rw (add-one k)
 
 pub last-one : (p : ℕ → Bool) (k : ℕ) → lastBelow p (k + 1) ≡ cond (p k) k (lastBelow p k)
 unfolding lastBelow
-last-one p k = rw add-one
+last-one p k = rw (add-one k)
 
 -- one number that does not pass
 pub all-below-false : (p : ℕ → Bool) (k n : ℕ) → k < n → p k ≡ false → allBelow p n ≡ false

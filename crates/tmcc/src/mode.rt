@@ -3,7 +3,6 @@ ghost use mathlib.Core.Path.{_≡_};
 ghost use Prim.Native.Nat.{_<_, _≤_};
 ghost use lib.ListN.{length};
 ghost use Rattle.tmcc.specs.Mode.{dataBytes, within, used, unused, modeGood, modesGood, modeOf, slotLength};
-use wire::field;
 
 // Data bytes of a slot by code rate, 1 to 11. Entry 0 is no rate.
 const DATA_BYTES: [u16; 12] = [

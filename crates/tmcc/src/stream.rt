@@ -2,8 +2,8 @@
 ghost use mathlib.Core.Path.{_≡_};
 ghost use Prim.Native.Nat.{_<_, _≤_};
 ghost use lib.ListN.{length};
-ghost use Rattle.tmcc.specs.Count.{countBelow, lastBelow};
-ghost use Rattle.tmcc.specs.Stream.{chosen, relativeStream, ownSlot};
+ghost use Rattle.tmcc.specs.Count.{countBelow};
+ghost use Rattle.tmcc.specs.Stream.{chosen, streamsOf, relativeStream, ownSlot};
 use wire::field;
 
 // How many relative streams are chosen, and the last of them.
@@ -20,9 +20,10 @@ fn is_chosen(block: &[u8], id: u16, r: usize) -> bool
     block[25 + r] == 2 && field::read16(block, 693 + 2 * r) == id
 }
 
+// The relative streams of type TLV with the stream id.
 pub fn find(block: &[u8], id: u16) -> Streams
     requires { ⌜ length (now block) ≡ 1178 ⌝ }
-    ensures { λ r. ⌜ r ≡ record { count = countBelow (chosen (now (block .entry)) id) 16; last = lastBelow (chosen (now (block .entry)) id) 16 } ⌝ }
+    ensures { λ r. ⌜ r ≡ streamsOf (now (block .entry)) id ⌝ }
 {
     let mut count = 0;
     let mut last: u8 = 0;

@@ -24,7 +24,8 @@ refused-requires-2 c κs = search needs
 returns-2 : tie.Need-returns-2
 returns-2 c =
     let d = c .before .before in
-    c .refused2 .ensures ∙ sym (refused-modes _ _ (d .before .if1 .left) (sym (d .are-good .ensures) ∙ not-true _ (c .before .if2 .taken)))
+    let e = sym (d .are-good .ensures) ∙ not-true _ (c .before .if2 .taken) in
+    c .refused2 .ensures ∙ sym (refused-modes _ _ (d .before .if1 .left) e)
 
 find-requires : tie.Need-find-requires
 find-requires c κs = search needs

@@ -46,7 +46,8 @@ returns c =
     let d = c .before .before in
     c .is-unused .ensures ∙ sym (good-unused _ _ (sym (d .before .is-used .ensures) ∙ not-true _ (d .if1 .taken)))
 
-used-here : (c : tie.Else1) → usedAt (now (c .before .before .before .before .before .args .block)) (c .before .before .before .before .before .args .k) ≡ true
+used-here : (c : tie.Else1)
+    → usedAt (now (c .before .before .before .before .before .args .block)) (c .before .before .before .before .before .args .k) ≡ true
 used-here c = sym (c .before .is-used .ensures) ∙ not-false _ (c .if1 .left)
 
 returns-2 : tie.Need-returns-2

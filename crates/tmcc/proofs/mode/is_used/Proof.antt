@@ -24,7 +24,9 @@ modulated c = rw (← bits-shift _ 4 4, ← c .before .is-within .ensures) (not-
 
 returns-2 : tie.Need-returns-2
 unfolding used
-returns-2 c = rw (modulated (c .before .before), ← bits-mask _ 4, ← c .before .is-within2 .ensures, not-true (c .before .is-within2 .result) (c .if2 .taken))
+returns-2 c =
+    let d = c .before .is-within2 in
+    rw (modulated (c .before .before), ← bits-mask _ 4, ← d .ensures, not-true (d .result) (c .if2 .taken))
 
 -- and a code rate
 rated : (c : tie.Else2) → within 11 (codeRate (c .before .before .before .before .args .mode)) ≡ true

@@ -1,0 +1,4 @@
+-- What is proved of the control block beside its code.
+pub mod Table
+pub mod Laws
+pub mod Specimens
