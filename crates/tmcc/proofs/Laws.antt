@@ -1,20 +1,22 @@
 -- What an accepted control block keeps to, and what stands at each slot of its layout.
-use Prim.Native.Nat.{ℕ, _<_, _≤_}
+use Prim.Native.Nat.{ℕ, zero, suc, _+_, _-_, _<_, _≤_}
 use mathlib.Core.Path.{_≡_, refl, ap}
 use mathlib.Core.Bool.{Bool, true, false, cond}
 use mathlib.Core.List.{List}
+use native.Mathlib.Nat.{add-zero}
 use native.Mathlib.Omega.{arith}
 use lib.ListN.{length, getD}
-use lib.Dec.{eqb}
-use borrow.Author.Tests.{eqb-true, eqb-false, ltb-true}
+use lib.Dec.{eqb, ltb}
+use borrow.Author.Tests.{eqb-true, eqb-false, ltb-true, ltb-false}
 use Rattle.tmcc.specs.declared.block.Decoded.{Decoded}
 use Rattle.tmcc.specs.declared.layout.Pointers.{Pointers}
-use Rattle.tmcc.specs.Count.{countBelow, getD-tab, length-tab}
-use Rattle.tmcc.specs.Mode.{modesGood, slotLength}
+use Rattle.tmcc.specs.Count.{allBelow, countBelow, getD-tab, length-tab}
+use Rattle.tmcc.specs.Mode.{slotCount, slotsOf, slots-one, modeGood, modesGood, modeFrom, modeOf, slotLength}
 use Rattle.tmcc.specs.Stream.{chosen, ownSlot}
 use Rattle.tmcc.specs.Layout.{layoutOf, pointersAt}
 use Rattle.tmcc.specs.Block.{decodeOf, ownStream, Accepted, accepts}
-use Rattle.tmcc.proofs.Table.{and-left, slot-most}
+use Rattle.tmcc.proofs.Cases.{and-left, and-right, by-test}
+use Rattle.tmcc.proofs.Table.{slot-most}
 
 -- an answer with no refusal is not the other one
 first : (t : Bool) (x y : Decoded) → cond t x y .refusal ≡ 0 → (y .refusal ≡ 0 → ⊥) → (t ≡ true) × (x .refusal ≡ 0)
@@ -63,3 +65,24 @@ layout-most b own s h = rw (layout-length b own s h) (slot-most b s)
 pub own-live : (b : List ℕ) (own s : ℕ) → ownSlot b own s ≡ true → 0 < slotLength b s
 unfolding ownSlot
 own-live b own s e = ltb-true _ _ (and-left _ _ e)
+
+-- a slot that lies in the modes from k on falls to one of them
+mode-among : (b : List ℕ) (m k s : ℕ) → s + slotsOf b k < slotsOf b (k + m) → modeFrom b m k s < k + m
+unfolding modeFrom
+mode-among b zero k s h = let e : slotsOf b (k + 0) ≡ slotsOf b k = rw add-zero in omega arith
+mode-among b (suc m) k s h =
+    let e : k + suc m ≡ k + 1 + m = omega arith in
+    let g : slotsOf b (k + suc m) ≡ slotsOf b (k + 1 + m) = ap (slotsOf b) e in
+    by-test (ltb s (slotCount b k)) (λ n. n < k + suc m) k (modeFrom b m (k + 1) (s - slotCount b k))
+    (λ t. omega arith)
+    (λ t.
+    let l : slotCount b k ≤ s = ltb-false _ _ t in
+    let i = mode-among b m (k + 1) (s - slotCount b k) (omega (arith, slots-one b k)) in
+    omega (arith, i))
+
+-- each slot of a frame whose modes keep the rules falls to one of the eight
+pub slot-mode : (b : List ℕ) (s : ℕ) → modesGood b ≡ true → s < 120 → modeOf b s < 8
+unfolding modesGood modeOf slotsOf
+slot-mode b s g h =
+    let e : slotsOf b 8 ≡ 120 = eqb-true _ _ (and-right (allBelow (modeGood b) 8) _ g) in
+    mode-among b 8 0 s (omega arith)

@@ -1,21 +1,14 @@
 -- The table of data lengths: each entry is a multiple of 187 and at most 5049, by one test computed over the whole table.
 use Prim.Native.Nat.{ℕ, zero, suc, _%_, _≤_}
 use mathlib.Core.Path.{_≡_, refl}
-use mathlib.Core.Bool.{Bool, true, false, cond, _&&_}
+use mathlib.Core.Bool.{Bool, true, _&&_}
 use mathlib.Core.List.{List, [], _∷_}
 use native.Mathlib.Omega.{arith}
 use lib.ListN.{getD}
 use lib.Dec.{eqb, leb}
 use borrow.Author.Tests.{eqb-true, leb-true}
 use Rattle.tmcc.specs.Mode.{slotBytes, dataBytes, codeRate, modeByte, modeOf, live, slotLength}
-
-pub and-left : (a b : Bool) → (a && b) ≡ true → a ≡ true
-and-left true b e = refl
-and-left false b e = e
-
-pub and-right : (a b : Bool) → (a && b) ≡ true → b ≡ true
-and-right true b e = e
-and-right false b e = absurd (let z : _≡_ {A = ℕ} 0 1 = cc in omega arith)
+use Rattle.tmcc.proofs.Cases.{and-left, and-right, by-test}
 
 -- the test passes at each entry, and at 0, which stands past the end
 every : (ℕ → Bool) → List ℕ → Bool
@@ -40,16 +33,12 @@ pub data-most : (rate : ℕ) → dataBytes rate ≤ 5049
 unfolding dataBytes every right
 data-most rate = leb-true _ _ (and-right (eqb (dataBytes rate % 187) 0) _ (at right slotBytes refl rate))
 
-either : (P : ℕ → Type 0) (t : Bool) (x y : ℕ) → P x → P y → P (cond t x y)
-either P true x y p q = p
-either P false x y p q = q
-
 -- what holds of every entry and of 0 holds of every slot's data length
 of-slot : (P : ℕ → Type 0) → ((rate : ℕ) → P (dataBytes rate)) → P 0 → (b : List ℕ) (s : ℕ) → P (slotLength b s)
 unfolding slotLength
 of-slot P h z b s =
     let mode = modeByte b (modeOf b s) in
-    either P (live mode s) (dataBytes (codeRate mode)) 0 (h (codeRate mode)) z
+    by-test (live mode s) P (dataBytes (codeRate mode)) 0 (λ e. h (codeRate mode)) (λ e. z)
 
 pub slot-187 : (b : List ℕ) (s : ℕ) → slotLength b s % 187 ≡ 0
 slot-187 b s = of-slot (λ n. n % 187 ≡ 0) data-187 refl b s

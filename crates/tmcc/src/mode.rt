@@ -4,7 +4,7 @@ ghost use Prim.Native.Nat.{_<_, _≤_};
 ghost use lib.ListN.{length};
 ghost use Rattle.tmcc.specs.Mode.{dataBytes, within, used, unused, modeGood, modesGood, modeOf, slotLength};
 
-// Data bytes of a slot by code rate, 1 to 11. Entry 0 is no rate.
+// Data bytes of a slot by code rate, 1 to 11, each a multiple of 187. Entry 0 is no rate.
 const DATA_BYTES: [u16; 12] = [
     0,
     1870,
