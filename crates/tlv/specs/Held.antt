@@ -1,0 +1,37 @@
+-- What a sound slot does to held bytes: 43 is decided before 42.
+use Prim.Native.Nat.{ℕ, _-_}
+use mathlib.Core.Bool.{Bool, cond}
+use mathlib.Core.List.{List, _++_}
+use lib.ListN.{length}
+use lib.Dec.{eqb, ltb}
+use Rattle.tlv.specs.declared.held.Continuation.{Continuation}
+use Rattle.tlv.specs.declared.held.Continuation.the-variants.{TooLong, Misfit, Ends, GoesOn}
+use Rattle.tlv.specs.Packet.{total}
+use Rattle.tlv.specs.Slot.{none}
+
+-- the first packet starts at t: an end that differs from t is a misfit
+unfoldable pub endWithin : ℕ → ℕ → Continuation
+endWithin end t = cond (eqb end t) (Ends end) Misfit
+
+-- no packet starts in a slot of length l: "an end inside the slot, or at L without last = L, or after L with last = L"
+unfoldable pub endBeyond : ℕ → ℕ → ℕ → Continuation
+endBeyond end l last =
+    cond (ltb end l) Misfit
+    (cond (eqb end l) (cond (eqb last l) (Ends end) Misfit) (cond (eqb last l) Misfit GoesOn))
+
+-- the end of the held packet in the slot behind it; its header is completed from the slot, before or past t
+unfoldable pub heldEnd : List ℕ → List ℕ → ℕ
+heldEnd held s = total (held ++ s) - length held
+
+unfoldable pub continuationOf : List ℕ → List ℕ → ℕ → ℕ → Continuation
+continuationOf held s top last =
+    cond (eqb (length held) 0) (endWithin 0 top)
+    (cond (ltb 16384 (total (held ++ s))) TooLong
+    (cond (eqb top none) (endBeyond (heldEnd held s) (length s) last) (endWithin (heldEnd held s) top)))
+
+-- the note that each case gives; 0 for none
+abbrev pub noteOf : Continuation → ℕ
+noteOf TooLong = 43
+noteOf Misfit = 42
+noteOf (Ends end) = 0
+noteOf GoesOn = 0

@@ -1,0 +1,3 @@
+pub mod Packet
+pub mod Slot
+pub mod Held
