@@ -1,9 +1,11 @@
 -- What a sound slot does to held bytes: 43 is decided before 42.
-use Prim.Native.Nat.{ℕ, _-_}
-use mathlib.Core.Bool.{Bool, cond}
+use Prim.Native.Nat.{ℕ, _-_, _<_, _≤_}
+use mathlib.Core.Path.{_≡_}
+use mathlib.Core.Bool.{cond}
 use mathlib.Core.List.{List, _++_}
 use lib.ListN.{length}
 use lib.Dec.{eqb, ltb}
+use borrow.Author.Tests.{lt-ltb, le-ltb, eq-eqb, ne-eqb}
 use Rattle.tlv.specs.declared.held.Continuation.{Continuation}
 use Rattle.tlv.specs.declared.held.Continuation.the-variants.{TooLong, Misfit, Ends, GoesOn}
 use Rattle.tlv.specs.Packet.{total}
@@ -35,3 +37,23 @@ noteOf TooLong = 43
 noteOf Misfit = 42
 noteOf (Ends end) = 0
 noteOf GoesOn = 0
+
+-- the four cases
+module _ (held s : List ℕ) (top last : ℕ) where
+  pub nothing-held : length held ≡ 0 → continuationOf held s top last ≡ endWithin 0 top
+  unfolding continuationOf
+  nothing-held h = rw (eq-eqb _ _ h)
+
+  pub held-too-long : (length held ≡ 0 → ⊥) → 16384 < total (held ++ s) → continuationOf held s top last ≡ TooLong
+  unfolding continuationOf
+  held-too-long h l = rw (ne-eqb _ _ h, lt-ltb _ _ l)
+
+  pub held-without-top : (length held ≡ 0 → ⊥) → total (held ++ s) ≤ 16384 → top ≡ none
+      → continuationOf held s top last ≡ endBeyond (heldEnd held s) (length s) last
+  unfolding continuationOf
+  held-without-top h l t = rw (ne-eqb _ _ h, le-ltb _ _ l, eq-eqb _ _ t)
+
+  pub held-before-top : (length held ≡ 0 → ⊥) → total (held ++ s) ≤ 16384 → (top ≡ none → ⊥)
+      → continuationOf held s top last ≡ endWithin (heldEnd held s) top
+  unfolding continuationOf
+  held-before-top h l t = rw (ne-eqb _ _ h, le-ltb _ _ l, ne-eqb _ _ t)

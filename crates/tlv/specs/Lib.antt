@@ -1,3 +1,5 @@
 pub mod Packet
+pub mod Cuts
+pub mod Walks
 pub mod Slot
 pub mod Held

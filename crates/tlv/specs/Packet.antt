@@ -1,6 +1,6 @@
 -- TLV packets in a list of bytes: the header, and the bytes cut into packets.
 use Prim.Native.Nat.{ℕ, zero, suc, _+_, _-_}
-use mathlib.Core.Bool.{Bool, true, false, cond, _&&_}
+use mathlib.Core.Bool.{Bool, true, cond, _&&_}
 use mathlib.Core.List.{List, [], _∷_}
 use lib.ListN.{length, take, drop}
 use lib.Dec.{eqb, leb, ltb}
@@ -38,15 +38,18 @@ pub record Cut : Type 0 where
   pub tail : List ℕ
   pub good : Bool
 
+-- no packet is complete in `b`
+abbrev pub uncut : List ℕ → Cut
+uncut b = record { packets = []; tail = b; good = marked b }
+
+-- the packet that begins `b`, in front of what the bytes behind it are cut into
+abbrev pub inFront : List ℕ → Cut → Cut
+inFront b r = record { packets = take (total b) b ∷ r .packets; tail = r .tail; good = marked b && r .good }
+
 -- `n` bounds the packets
 unfoldable pub cutBy : ℕ → List ℕ → Cut
-cutBy zero b = record { packets = []; tail = b; good = marked b }
-cutBy (suc n) b =
-    elim (complete b) [
-      | true ↦ let r = cutBy n (drop (total b) b) in
-          record { packets = take (total b) b ∷ r .packets; tail = r .tail; good = marked b && r .good }
-      | false ↦ record { packets = []; tail = b; good = marked b }
-    ]
+cutBy zero b = uncut b
+cutBy (suc n) b = cond (complete b) (inFront b (cutBy n (drop (total b) b))) (uncut b)
 
 unfoldable pub cut : List ℕ → Cut
 cut b = cutBy (length b) b

@@ -1,10 +1,13 @@
 -- Sound slots (document 01, "A slot is sound exactly if").
-use Prim.Native.Nat.{ℕ, _-_}
-use mathlib.Core.Bool.{Bool, cond, _&&_, _||_}
+use Prim.Native.Nat.{ℕ, _-_, _≤_, _<_}
+use mathlib.Core.Path.{_≡_}
+use mathlib.Core.Bool.{Bool, true, false, cond, _&&_, _||_}
 use mathlib.Core.List.{List}
 use lib.ListN.{length, drop}
 use lib.Dec.{eqb, ltb}
-use Rattle.tlv.specs.Packet.{cut}
+use borrow.Author.Tests.{lt-ltb, le-ltb, eq-eqb, ne-eqb}
+use Rattle.tlv.specs.declared.packet.Walked.the-variants.{Unmarked, Tail as TailAt}
+use Rattle.tlv.specs.Packet.{cut, walkOf}
 
 -- the pointer that says "none"
 abbrev pub none : ℕ
@@ -26,3 +29,35 @@ sound s top last =
 -- the note of an own live slot by itself: 41 if it is unsound; 0 for none
 unfoldable pub slotNote : List ℕ → ℕ → ℕ → ℕ
 slotNote s top last = cond (sound s top last) 0 41
+
+-- its cases, by the top pointer and by where the walk comes to
+module _ (s : List ℕ) (top last : ℕ) where
+  pub sound-without-top : top ≡ none → sound s top last ≡ (eqb last none || eqb last (length s))
+  unfolding sound
+  sound-without-top t = rw (eq-eqb _ _ t)
+
+  module _ (t : top ≡ none → ⊥) where
+    pub unsound-outside : length s ≤ top → sound s top last ≡ false
+    unfolding sound
+    unsound-outside h = rw (ne-eqb _ _ t, le-ltb _ _ h)
+
+    pub unsound-unmarked : top < length s → walkOf s top ≡ Unmarked → sound s top last ≡ false
+    unfolding sound walkOf endFrom
+    unsound-unmarked h w =
+        rw (ne-eqb _ _ t, lt-ltb _ _ h)
+        (go (cut (drop top s) .good) (endFrom s top) (eqb last (lastPointer (endFrom s top))) w)
+      where
+        go : (g : Bool) (e : ℕ) (b : Bool) → cond g (TailAt e) Unmarked ≡ Unmarked → g && b ≡ false
+        go true e b w = cc
+        go false e b w = cc
+
+    pub sound-tail : top < length s → (end : ℕ) → walkOf s top ≡ TailAt end
+        → sound s top last ≡ eqb last (lastPointer end)
+    unfolding sound walkOf endFrom
+    sound-tail h end w =
+        rw (ne-eqb _ _ t, lt-ltb _ _ h)
+        (go (cut (drop top s) .good) (endFrom s top) (λ (n : ℕ). eqb last (lastPointer n)) w)
+      where
+        go : (g : Bool) (e : ℕ) (f : ℕ → Bool) → cond g (TailAt e) Unmarked ≡ TailAt end → g && f e ≡ f end
+        go true e f w = cc
+        go false e f w = cc

@@ -1,6 +1,6 @@
 // What a sound slot does to held bytes.
 ghost use mathlib.Core.Path.{_≡_};
-ghost use Prim.Native.Nat.{_+_, _<_};
+ghost use Prim.Native.Nat.{_-_, _<_};
 ghost use mathlib.Core.List.{_++_};
 ghost use lib.ListN.{getD};
 ghost use Rattle.tlv.specs.Packet.{total};
@@ -45,6 +45,16 @@ fn total_across(held: &[u8], s: &[u8]) -> usize
     4 + (wide(byte_across(held, s, 2)) * 256 + wide(byte_across(held, s, 3)))
 }
 
+// What is left of a total when `n` bytes are held; nothing if they are more.
+fn left(total: usize, n: usize) -> usize
+    ensures { λ r. ⌜ r ≡ total - n ⌝ }
+{
+    if total < n {
+        return 0;
+    }
+    total - n
+}
+
 // No packet starts in the slot: the held one must reach its end, and `last` must say whether it ends there.
 fn without_top(end: usize, len: usize, last: usize) -> Continuation
     ensures { λ r. ⌜ r ≡ endBeyond end len last ⌝ }
@@ -75,6 +85,7 @@ fn before_top(end: usize, t: usize) -> Continuation
     }
 }
 
+// What a sound slot does to the held bytes.
 pub fn resume(held: &[u8], s: &[u8], top: u16, last: u16) -> Continuation
     ensures { λ r. ⌜ r ≡ continuationOf (now (held .entry)) (now (s .entry)) top last ⌝ }
 {
@@ -86,7 +97,7 @@ pub fn resume(held: &[u8], s: &[u8], top: u16, last: u16) -> Continuation
     if crate::packet::MAX_PACKET < total {
         return Continuation::TooLong;
     }
-    let end = if total < n { 0 } else { total - n };
+    let end = left(total, n);
     if top == crate::slot::NONE {
         without_top(end, s.len(), last as usize)
     } else {

@@ -1,32 +1,39 @@
+-- Why byte_across meets its contract: a byte of either list, and 0 past both.
+use Prim.Native.Nat.{ℕ, _+_, _-_}
+use mathlib.Core.Path.{_≡_, sym}
+use mathlib.Core.List.{_++_}
+use native.Mathlib.Omega.{arith}
+use lib.ListN.{length, length-append, List·getD-append, List·getD-eq-default}
+use lib.Seq.{getD-append-add}
 use borrow.Author.Needs.{needs}
 use Rattle.tlv.proofs.held.byte_across.Statement.{statement}
 use Rattle.tlv.proofs.held.byte_across.Tie as tie
-use Rattle.tlv.proofs.held.byte_across.Reads as reads
-use Rattle.tlv.proofs.held.byte_across.Lts as lts
 
--- src/held.rt:26:16
 shared-slice-read-result : tie.Need-shared-slice-read-result
 shared-slice-read-result c = search needs
 
--- src/held.rt:26:9
 returns : tie.Need-returns
-returns c = ?
+returns c =
+    let a = c .before .before .args in
+    sym (List·getD-append (a .held .now) (a .s .now) 0 (a .i) (search needs))
 
--- src/held.rt:28:13
 sub-j : tie.Need-sub-j
 sub-j c = search needs
 
--- src/held.rt:30:16
 shared-slice-read-result-2 : tie.Need-shared-slice-read-result-2
 shared-slice-read-result-2 c = search needs
 
--- src/held.rt:30:9
 returns-2 : tie.Need-returns-2
-returns-2 c = ?
+returns-2 c =
+    let a = c .before .before .before .args in
+    let j : ℕ = a .i - length (a .held .now) in
+    let e : length (a .held .now) + j ≡ a .i = omega arith in
+    rw e at (sym (getD-append-add (a .held .now) (a .s .now) j 0))
 
--- src/held.rt:22:1
 returns-3 : tie.Need-returns-3
-returns-3 c = ?
+returns-3 c =
+    let a = c .before .before .args in
+    sym (List·getD-eq-default (a .held .now ++ a .s .now) 0 (rw length-append (omega arith)))
 
 pub byte-across-spec : {M : Type 1} → statement M
 byte-across-spec =

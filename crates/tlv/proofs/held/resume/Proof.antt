@@ -1,43 +1,56 @@
+-- Why resume meets its contract: the four cases of its definition.
+use Prim.Native.Nat.{_≤_}
+use mathlib.Core.Path.{_≡_, sym, _∙_}
+use mathlib.Core.List.{_++_}
+use Rattle.tlv.specs.Packet.{total}
+use Rattle.tlv.specs.Held.{heldEnd, nothing-held, held-too-long, held-without-top, held-before-top}
 use borrow.Author.Needs.{needs}
 use Rattle.tlv.proofs.held.resume.Statement.{statement}
 use Rattle.tlv.proofs.held.resume.Tie as tie
-use Rattle.tlv.proofs.held.resume.Reads as reads
-use Rattle.tlv.proofs.held.resume.Lts as lts
-use Rattle.tlv.proofs.held.before_top.Reads as before-top-reads
-use Rattle.tlv.proofs.held.total_across.Reads as total-across-reads
-use Rattle.tlv.proofs.held.without_top.Reads as without-top-reads
 
--- src/held.rt:83:9
 before-top-requires : tie.Need-before-top-requires
 before-top-requires c κs = search needs
 
--- src/held.rt:83:9
 returns : tie.Need-returns
-returns c = ?
+returns c = c .before-top .ensures ∙ sym (nothing-held _ _ _ _ (c .before .if1 .taken))
 
--- src/held.rt:85:9
 total-across-requires : tie.Need-total-across-requires
 total-across-requires c κs = search needs
 
--- src/held.rt:87:9
 returns-2 : tie.Need-returns-2
-returns-2 c = ?
+returns-2 c =
+    sym (held-too-long _ _ _ _ (c .before .before .if1 .left) (rw (c .before .total-across .ensures .0) at (c .if2 .taken)))
 
--- src/held.rt:91:9
+left-requires : tie.Need-left-requires
+left-requires c κs = search needs
+
 without-top-requires : tie.Need-without-top-requires
 without-top-requires c κs = search needs
 
--- src/held.rt:93:9
 before-top-requires-2 : tie.Need-before-top-requires-2
 before-top-requires-2 c κs = search needs
 
--- src/held.rt:78:1
-returns-3 : tie.Need-returns-3
-returns-3 c = ?
+-- past the tests of length and total: where the held packet ends
+ends : (d : tie.After-left)
+    → let a = d .before .before .before .before .before .before .args in d .left .result ≡ heldEnd (a .held .now) (a .s .now)
+unfolding heldEnd
+ends d = rw (d .left .ensures, d .before .before .total-across .ensures .0)
 
--- src/held.rt:78:1
+-- and that its total is kept
+kept : (d : tie.Else2) → let a = d .before .before .before .before .before .args in total (a .held .now ++ a .s .now) ≤ 16384
+kept d = rw (d .before .total-across .ensures .0) at (d .if2 .left)
+
+returns-3 : tie.Need-returns-3
+returns-3 c =
+    let d = c .before .before .before in
+    rw (ends (c .before .before)) at (c .without-top .ensures)
+    ∙ sym (held-without-top _ _ _ _ (d .before .before .if1 .left) (kept d) (c .before .if3 .taken))
+
 returns-4 : tie.Need-returns-4
-returns-4 c = ?
+returns-4 c =
+    let d = c .before .before .before in
+    rw (ends (c .before .before)) at (c .before-top2 .ensures)
+    ∙ sym (held-before-top _ _ _ _ (d .before .before .if1 .left) (kept d) (c .before .if3 .left))
 
 pub resume-spec : {M : Type 1} → statement M
 resume-spec =
@@ -47,6 +60,7 @@ resume-spec =
     returns
     total-across-requires
     returns-2
+    left-requires
     without-top-requires
     before-top-requires-2
     returns-3

@@ -1,27 +1,28 @@
+-- Why without_top meets its contract: the five cases of its definition.
+use borrow.Author.Tests.{lt-ltb, le-ltb, eq-eqb, ne-eqb}
+use Rattle.tlv.specs.Held.{endBeyond}
 use Rattle.tlv.proofs.held.without_top.Statement.{statement}
 use Rattle.tlv.proofs.held.without_top.Tie as tie
-use Rattle.tlv.proofs.held.without_top.Reads as reads
-use Rattle.tlv.proofs.held.without_top.Lts as lts
 
--- src/held.rt:53:9
 returns : tie.Need-returns
-returns c = ?
+unfolding endBeyond
+returns c = rw (lt-ltb _ _ (c .if1 .taken))
 
--- src/held.rt:57:13
 returns-2 : tie.Need-returns-2
-returns-2 c = ?
+unfolding endBeyond
+returns-2 c = rw (le-ltb _ _ (c .before .before .if1 .left), eq-eqb _ _ (c .before .if2 .taken), eq-eqb _ _ (c .if3 .taken))
 
--- src/held.rt:59:9
 returns-3 : tie.Need-returns-3
-returns-3 c = ?
+unfolding endBeyond
+returns-3 c = rw (le-ltb _ _ (c .before .before .if1 .left), eq-eqb _ _ (c .before .if2 .taken), ne-eqb _ _ (c .if3 .left))
 
--- src/held.rt:62:9
 returns-4 : tie.Need-returns-4
-returns-4 c = ?
+unfolding endBeyond
+returns-4 c = rw (le-ltb _ _ (c .before .before .if1 .left), ne-eqb _ _ (c .before .if2 .left), eq-eqb _ _ (c .if4 .taken))
 
--- src/held.rt:49:1
 returns-5 : tie.Need-returns-5
-returns-5 c = ?
+unfolding endBeyond
+returns-5 c = rw (le-ltb _ _ (c .before .before .if1 .left), ne-eqb _ _ (c .before .if2 .left), ne-eqb _ _ (c .if4 .left))
 
 pub without-top-spec : {M : Type 1} → statement M
 without-top-spec = tie.close (tie.spec returns returns-2 returns-3 returns-4 returns-5)

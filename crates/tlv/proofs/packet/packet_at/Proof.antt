@@ -1,41 +1,45 @@
+-- Why packet_at meets its contract: each refusal is a way not to be complete.
+use native.Mathlib.Omega.{arith}
+use mathlib.Core.Path.{sym}
+use Rattle.tlv.specs.Walks.{header-past, packet-past, packet-within, tail-there, packet-there}
 use borrow.Author.Needs.{needs}
 use Rattle.tlv.proofs.packet.packet_at.Statement.{statement}
 use Rattle.tlv.proofs.packet.packet_at.Tie as tie
-use Rattle.tlv.proofs.packet.packet_at.Reads as reads
-use Rattle.tlv.proofs.packet.packet_at.Lts as lts
-use Rattle.tlv.proofs.packet.total_at.Reads as total-at-reads
 
--- src/packet.rt:44:9
 returns : tie.Need-returns
-returns c = ?
+returns c =
+    let a = c .before .before .args in
+    sym (tail-there _ _ (header-past (a .s .now) (a .at) (omega arith)))
 
--- src/packet.rt:46:8
 sub-if2 : tie.Need-sub-if2
 sub-if2 c = search needs
 
--- src/packet.rt:47:9
 returns-2 : tie.Need-returns-2
-returns-2 c = ?
+returns-2 c =
+    let a = c .before .before .before .args in
+    sym (tail-there _ _ (header-past (a .s .now) (a .at) (c .if2 .taken)))
 
--- src/packet.rt:49:9
 total-at-requires : tie.Need-total-at-requires
 total-at-requires c κs = search needs
 
--- src/packet.rt:50:8
 sub-if3 : tie.Need-sub-if3
 sub-if3 c = search needs
 
--- src/packet.rt:51:9
 returns-3 : tie.Need-returns-3
-returns-3 c = ?
+returns-3 c =
+    let a = c .before .before .before .before .before .args in
+    let past = rw (c .before .total-at .ensures .0) at (c .if3 .taken) in
+    sym (tail-there _ _ (packet-past (a .s .now) (a .at) (c .before .before .if2 .left) past))
 
--- src/packet.rt:53:18
 add-t4 : tie.Need-add-t4
 add-t4 c = search needs
 
--- src/packet.rt:40:1
 returns-4 : tie.Need-returns-4
-returns-4 c = ?
+returns-4 c =
+    let a = c .before .before .before .before .before .args in
+    let within = rw (c .before .total-at .ensures .0) at (c .if3 .left) in
+    rw (c .before .total-at .ensures .0)
+    (sym (packet-there _ _ (packet-within (a .s .now) (a .at) (c .before .before .if2 .left) within)))
 
 pub packet-at-spec : {M : Type 1} → statement M
 packet-at-spec =

@@ -1,15 +1,16 @@
+-- Why last_pointer meets its contract: an end of 0 is written as none.
+use borrow.Author.Tests.{eq-eqb, ne-eqb}
+use Rattle.tlv.specs.Slot.{lastPointer}
 use Rattle.tlv.proofs.slot.last_pointer.Statement.{statement}
 use Rattle.tlv.proofs.slot.last_pointer.Tie as tie
-use Rattle.tlv.proofs.slot.last_pointer.Reads as reads
-use Rattle.tlv.proofs.slot.last_pointer.Lts as lts
 
--- src/slot.rt:10:1
 returns : tie.Need-returns
-returns c = ?
+unfolding lastPointer
+returns c = rw (eq-eqb _ _ (c .if1 .taken))
 
--- src/slot.rt:10:1
 returns-2 : tie.Need-returns-2
-returns-2 c = ?
+unfolding lastPointer
+returns-2 c = rw (ne-eqb _ _ (c .if1 .left))
 
 pub last-pointer-spec : {M : Type 1} → statement M
 last-pointer-spec = tie.close (tie.spec returns returns-2)
