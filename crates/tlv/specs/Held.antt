@@ -8,7 +8,7 @@ use lib.Dec.{eqb, ltb}
 use borrow.Author.Tests.{lt-ltb, le-ltb, eq-eqb, ne-eqb}
 use Rattle.tlv.specs.declared.held.Continuation.{Continuation}
 use Rattle.tlv.specs.declared.held.Continuation.the-variants.{TooLong, Misfit, Ends, GoesOn}
-use Rattle.tlv.specs.Packet.{total}
+use Rattle.tlv.specs.Packet.{total, maxPacket}
 use Rattle.tlv.specs.Slot.{none}
 
 -- the first packet starts at t: an end that differs from t is a misfit
@@ -21,14 +21,18 @@ endBeyond end l last =
     cond (ltb end l) Misfit
     (cond (eqb end l) (cond (eqb last l) (Ends end) Misfit) (cond (eqb last l) Misfit GoesOn))
 
--- the end of the held packet in the slot behind it; its header is completed from the slot, before or past t
+-- the total of the held packet; its header is completed from the slot, before or past t
+unfoldable pub heldTotal : List ℕ → List ℕ → ℕ
+heldTotal held s = total (held ++ s)
+
+-- where it ends in the slot
 unfoldable pub heldEnd : List ℕ → List ℕ → ℕ
-heldEnd held s = total (held ++ s) - length held
+heldEnd held s = heldTotal held s - length held
 
 unfoldable pub continuationOf : List ℕ → List ℕ → ℕ → ℕ → Continuation
 continuationOf held s top last =
     cond (eqb (length held) 0) (endWithin 0 top)
-    (cond (ltb 16384 (total (held ++ s))) TooLong
+    (cond (ltb maxPacket (heldTotal held s)) TooLong
     (cond (eqb top none) (endBeyond (heldEnd held s) (length s) last) (endWithin (heldEnd held s) top)))
 
 -- the note that each case gives; 0 for none
@@ -44,16 +48,16 @@ module _ (held s : List ℕ) (top last : ℕ) where
   unfolding continuationOf
   nothing-held h = rw (eq-eqb _ _ h)
 
-  pub held-too-long : (length held ≡ 0 → ⊥) → 16384 < total (held ++ s) → continuationOf held s top last ≡ TooLong
+  pub held-too-long : (length held ≡ 0 → ⊥) → maxPacket < heldTotal held s → continuationOf held s top last ≡ TooLong
   unfolding continuationOf
   held-too-long h l = rw (ne-eqb _ _ h, lt-ltb _ _ l)
 
-  pub held-without-top : (length held ≡ 0 → ⊥) → total (held ++ s) ≤ 16384 → top ≡ none
+  pub held-without-top : (length held ≡ 0 → ⊥) → heldTotal held s ≤ maxPacket → top ≡ none
       → continuationOf held s top last ≡ endBeyond (heldEnd held s) (length s) last
   unfolding continuationOf
   held-without-top h l t = rw (ne-eqb _ _ h, le-ltb _ _ l, eq-eqb _ _ t)
 
-  pub held-before-top : (length held ≡ 0 → ⊥) → total (held ++ s) ≤ 16384 → (top ≡ none → ⊥)
+  pub held-before-top : (length held ≡ 0 → ⊥) → heldTotal held s ≤ maxPacket → (top ≡ none → ⊥)
       → continuationOf held s top last ≡ endWithin (heldEnd held s) top
   unfolding continuationOf
   held-before-top h l t = rw (ne-eqb _ _ h, le-ltb _ _ l, ne-eqb _ _ t)

@@ -3,3 +3,4 @@ pub mod Cuts
 pub mod Walks
 pub mod Slot
 pub mod Held
+pub mod Specimens

@@ -23,9 +23,13 @@ total b = 4 + be 2 b 2
 unfoldable pub complete : List ℕ → Bool
 complete b = leb 4 (length b) && leb (total b) (length b)
 
--- its known total is above 16,384
+-- the longest packet that is kept, its header included
+abbrev pub maxPacket : ℕ
+maxPacket = 16384
+
+-- its known total is above that
 unfoldable pub tooLong : List ℕ → Bool
-tooLong b = leb 4 (length b) && ltb 16384 (total b)
+tooLong b = leb 4 (length b) && ltb maxPacket (total b)
 
 -- the first byte of the packet that begins `b`, if there is one, is good
 unfoldable pub marked : List ℕ → Bool

@@ -3,8 +3,7 @@ ghost use mathlib.Core.Path.{_≡_};
 ghost use Prim.Native.Nat.{_-_, _<_};
 ghost use mathlib.Core.List.{_++_};
 ghost use lib.ListN.{getD};
-ghost use Rattle.tlv.specs.Packet.{total};
-ghost use Rattle.tlv.specs.Held.{continuationOf, endWithin, endBeyond};
+ghost use Rattle.tlv.specs.Held.{heldTotal, continuationOf, endWithin, endBeyond};
 
 // What becomes of the packet whose bytes are held.
 pub enum Continuation {
@@ -40,7 +39,7 @@ fn wide(x: u8) -> usize
 
 // The total of the held packet; its header is completed from the slot.
 fn total_across(held: &[u8], s: &[u8]) -> usize
-    ensures { λ r. ⌜ (r ≡ total (now (held .entry) ++ now (s .entry))) × (r < 65540) ⌝ }
+    ensures { λ r. ⌜ (r ≡ heldTotal (now (held .entry)) (now (s .entry))) × (r < 65540) ⌝ }
 {
     4 + (wide(byte_across(held, s, 2)) * 256 + wide(byte_across(held, s, 3)))
 }

@@ -1,9 +1,8 @@
 -- Why resume meets its contract: the four cases of its definition.
 use Prim.Native.Nat.{_≤_}
 use mathlib.Core.Path.{_≡_, sym, _∙_}
-use mathlib.Core.List.{_++_}
-use Rattle.tlv.specs.Packet.{total}
-use Rattle.tlv.specs.Held.{heldEnd, nothing-held, held-too-long, held-without-top, held-before-top}
+use Rattle.tlv.specs.Packet.{maxPacket}
+use Rattle.tlv.specs.Held.{heldTotal, heldEnd, nothing-held, held-too-long, held-without-top, held-before-top}
 use borrow.Author.Needs.{needs}
 use Rattle.tlv.proofs.held.resume.Statement.{statement}
 use Rattle.tlv.proofs.held.resume.Tie as tie
@@ -37,7 +36,7 @@ unfolding heldEnd
 ends d = rw (d .left .ensures, d .before .before .total-across .ensures .0)
 
 -- and that its total is kept
-kept : (d : tie.Else2) → let a = d .before .before .before .before .before .args in total (a .held .now ++ a .s .now) ≤ 16384
+kept : (d : tie.Else2) → let a = d .before .before .before .before .before .args in heldTotal (a .held .now) (a .s .now) ≤ maxPacket
 kept d = rw (d .before .total-across .ensures .0) at (d .if2 .left)
 
 returns-3 : tie.Need-returns-3

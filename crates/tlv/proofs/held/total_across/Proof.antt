@@ -1,4 +1,5 @@
 -- Why total_across meets its contract: the two bytes of the length.
+use Rattle.tlv.specs.Held.{heldTotal}
 use Rattle.tlv.specs.Cuts.{total-bytes}
 use borrow.Author.Needs.{needs}
 use Rattle.tlv.proofs.held.total_across.Statement.{statement}
@@ -26,6 +27,7 @@ add-result-2 : tie.Need-add-result-2
 add-result-2 c = search needs
 
 returns : tie.Need-returns
+unfolding heldTotal
 returns c = (
   rw (
     total-bytes,
