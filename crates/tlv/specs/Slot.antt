@@ -1,13 +1,14 @@
 -- Sound slots (document 01, "A slot is sound exactly if").
 use Prim.Native.Nat.{ℕ, _-_, _≤_, _<_}
 use mathlib.Core.Path.{_≡_}
-use mathlib.Core.Bool.{Bool, true, false, cond, _&&_, _||_}
+use mathlib.Core.Bool.{Bool, false, cond, _&&_, _||_}
 use mathlib.Core.List.{List}
 use lib.ListN.{length, drop}
 use lib.Dec.{eqb, ltb}
 use borrow.Author.Tests.{lt-ltb, le-ltb, eq-eqb, ne-eqb}
 use Rattle.tlv.specs.declared.packet.Walked.the-variants.{Unmarked, Tail as TailAt}
 use Rattle.tlv.specs.Packet.{cut, walkOf}
+use Rattle.tlv.specs.Walks.{unmarked-bad, tail-good}
 
 -- the pointer that says "none"
 abbrev pub none : ℕ
@@ -42,22 +43,12 @@ module _ (s : List ℕ) (top last : ℕ) where
     unsound-outside h = rw (ne-eqb _ _ t, le-ltb _ _ h)
 
     pub unsound-unmarked : top < length s → walkOf s top ≡ Unmarked → sound s top last ≡ false
-    unfolding sound walkOf endFrom
-    unsound-unmarked h w =
-        rw (ne-eqb _ _ t, lt-ltb _ _ h)
-        (go (cut (drop top s) .good) (endFrom s top) (eqb last (lastPointer (endFrom s top))) w)
-      where
-        go : (g : Bool) (e : ℕ) (b : Bool) → cond g (TailAt e) Unmarked ≡ Unmarked → g && b ≡ false
-        go true e b w = cc
-        go false e b w = cc
+    unfolding sound
+    unsound-unmarked h w = rw (ne-eqb _ _ t, lt-ltb _ _ h, unmarked-bad s top w)
 
     pub sound-tail : top < length s → (end : ℕ) → walkOf s top ≡ TailAt end
         → sound s top last ≡ eqb last (lastPointer end)
-    unfolding sound walkOf endFrom
+    unfolding sound endFrom
     sound-tail h end w =
-        rw (ne-eqb _ _ t, lt-ltb _ _ h)
-        (go (cut (drop top s) .good) (endFrom s top) (λ (n : ℕ). eqb last (lastPointer n)) w)
-      where
-        go : (g : Bool) (e : ℕ) (f : ℕ → Bool) → cond g (TailAt e) Unmarked ≡ TailAt end → g && f e ≡ f end
-        go true e f w = cc
-        go false e f w = cc
+        let g = tail-good s top end w in
+        rw (ne-eqb _ _ t, lt-ltb _ _ h, g .0, g .1)

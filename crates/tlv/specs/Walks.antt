@@ -1,7 +1,7 @@
 -- Laws of places in a slot: the packet there, and where the walk from there comes to.
 use Prim.Native.Nat.{ℕ, _+_, _-_, _≤_, _<_}
 use mathlib.Core.Path.{_≡_, refl}
-use mathlib.Core.Bool.{Bool, true, false}
+use mathlib.Core.Bool.{Bool, true, false, cond}
 use mathlib.Core.List.{List}
 use native.Mathlib.Omega.{arith}
 use lib.ListN.{length, drop, getD, length-drop, drop-of-length-le}
@@ -61,3 +61,22 @@ module _ (s : List ℕ) (at : ℕ) where
   pub walk-on : marked (drop at s) ≡ true → complete (drop at s) ≡ true → walkOf s at ≡ walkOf s (at + total (drop at s))
   unfolding walkOf
   walk-on m e = rw (cut-more (drop at s) e, m, drop-drop (total (drop at s)) at s)
+
+-- and what each answer of it says
+tail-at : (g : Bool) (e end : ℕ) → cond g (TailAt e) Unmarked ≡ TailAt end → (g ≡ true) × (e ≡ end)
+tail-at true e end w = (refl, cc)
+tail-at false e end w = (cc, cc)
+
+module _ (s : List ℕ) (at : ℕ) where
+  pub unmarked-bad : walkOf s at ≡ Unmarked → cut (drop at s) .good ≡ false
+  unfolding walkOf
+  unmarked-bad w = go (cut (drop at s) .good) w
+    where
+      go : (g : Bool) → cond g (TailAt (length s - length (cut (drop at s) .tail))) Unmarked ≡ Unmarked → g ≡ false
+      go true w = cc
+      go false w = refl
+
+  pub tail-good : (end : ℕ) → walkOf s at ≡ TailAt end
+      → (cut (drop at s) .good ≡ true) × (length s - length (cut (drop at s) .tail) ≡ end)
+  unfolding walkOf
+  tail-good end w = tail-at (cut (drop at s) .good) (length s - length (cut (drop at s) .tail)) end w

@@ -1,6 +1,8 @@
 -- Why packet_at meets its contract: each refusal is a way not to be complete.
 use native.Mathlib.Omega.{arith}
-use mathlib.Core.Path.{sym}
+use Prim.Native.Nat.{ℕ, _+_}
+use mathlib.Core.Path.{sym, _∙_, ap}
+use Rattle.tlv.specs.declared.packet.Next.the-variants.{Packet}
 use Rattle.tlv.specs.Walks.{header-past, packet-past, packet-within, tail-there, packet-there}
 use borrow.Author.Needs.{needs}
 use Rattle.tlv.proofs.packet.packet_at.Statement.{statement}
@@ -38,8 +40,8 @@ returns-4 : tie.Need-returns-4
 returns-4 c =
     let a = c .before .before .before .before .before .args in
     let within = rw (c .before .total-at .ensures .0) at (c .if3 .left) in
-    rw (c .before .total-at .ensures .0)
-    (sym (packet-there _ _ (packet-within (a .s .now) (a .at) (c .before .before .if2 .left) within)))
+    let whole = packet-within (a .s .now) (a .at) (c .before .before .if2 .left) within in
+    ap (λ (n : ℕ). Packet (a .at + n)) (c .before .total-at .ensures .0) ∙ sym (packet-there _ _ whole)
 
 pub packet-at-spec : {M : Type 1} → statement M
 packet-at-spec =
