@@ -1,3 +1,4 @@
+-- The definitions of slots and TLV packets, their laws, and the specimens.
 pub mod Packet
 pub mod Cuts
 pub mod Walks
