@@ -1,0 +1,7 @@
+-- The definitions of slots and TLV packets, their laws, and the specimens.
+pub mod Packet
+pub mod Cuts
+pub mod Walks
+pub mod Slot
+pub mod Held
+pub mod Specimens

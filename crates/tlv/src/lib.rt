@@ -1,0 +1,4 @@
+// Slots and TLV packets: the walk over a slot, its soundness, and what it does to held bytes.
+pub mod held;
+pub mod packet;
+pub mod slot;
