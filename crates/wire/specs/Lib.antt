@@ -1,3 +1,4 @@
+-- The definitions of bytes and fields, and their laws.
 pub mod Bits
 pub mod Field
 pub mod Memory
