@@ -1,0 +1,6 @@
+pub mod Flow
+pub mod Header
+pub mod Watch
+pub mod Unit
+pub mod Payload
+pub mod Packet
