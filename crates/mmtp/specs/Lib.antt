@@ -1,3 +1,4 @@
+pub mod Cases
 pub mod Flow
 pub mod Header
 pub mod Watch

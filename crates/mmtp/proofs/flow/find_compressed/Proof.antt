@@ -1,58 +1,60 @@
+-- Why find_compressed meets its contract: length, CID, header type and length behind it, in the definition's order.
+use mathlib.Core.Path.{_≡_, sym, _∙_}
+use Rattle.mmtp.specs.Flow.{behind, compressedOf, under-3-bytes, other-cid, own-cid, start-bounds, behind-cut, behind-whole}
+use native.Mathlib.Omega.{arith}
 use borrow.Author.Needs.{needs}
 use Rattle.mmtp.proofs.flow.find_compressed.Statement.{statement}
 use Rattle.mmtp.proofs.flow.find_compressed.Tie as tie
-use Rattle.mmtp.proofs.flow.find_compressed.Reads as reads
-use Rattle.mmtp.proofs.flow.find_compressed.Lts as lts
-use Rattle.mmtp.proofs.flow.compressed_header.Reads as compressed-header-reads
-use Rattle.wire.proofs.field.read16.Reads as read16-reads
 
--- src/flow.rt:43:9
+-- past the test of the CID
+own : (d : tie.After-compressed-header) → let a = d .before .before .before .before .before .before .args in
+    compressedOf (a .packet .now) (a .cid) ≡ behind (d .compressed-header .result) (a .packet .now)
+own d =
+    let read = d .before .before .before in
+    rw (d .compressed-header .ensures) (own-cid _ _ (read .before .if1 .left) (omega (arith, read .read16 .ensures)))
+
 returns : tie.Need-returns
-returns c = ?
+returns c = sym (under-3-bytes _ _ (c .if1 .taken))
 
--- src/flow.rt:45:8
 read16-requires : tie.Need-read16-requires
 read16-requires c κs = search needs
 
--- src/flow.rt:46:9
 returns-2 : tie.Need-returns-2
-returns-2 c = ?
+returns-2 c = sym (other-cid _ _ (c .before .before .if1 .left) (λ q. c .if2 .taken (omega (arith, c .before .read16 .ensures))))
 
--- src/flow.rt:48:36
 shared-slice-read-compressed-header : tie.Need-shared-slice-read-compressed-header
 shared-slice-read-compressed-header c = search needs
 
--- src/flow.rt:48:9
 compressed-header-requires : tie.Need-compressed-header-requires
 compressed-header-requires c κs = search needs
 
--- src/flow.rt:50:27
 enum-known-header : tie.Need-enum-known-header
 enum-known-header c = search needs
 
--- src/flow.rt:51:22
 add-if3 : tie.Need-add-if3
-add-if3 c = ?
+add-if3 c =
+    let b = start-bounds _ _ (sym (c .before .before .before .compressed-header .ensures) ∙ c .before .header .given .1) in
+    omega arith
 
--- src/flow.rt:54:28
 add-t15 : tie.Need-add-t15
 add-t15 c = search needs
 
--- src/flow.rt:57:33
 enum-told : tie.Need-enum-told
 enum-told c = search needs
 
--- src/flow.rt:38:1
 returns-3 : tie.Need-returns-3
-returns-3 c = ?
+returns-3 c =
+    let d = c .before .before in
+    sym (own (d .before .before) ∙ rw (d .header .given .1) (behind-cut _ _ (c .if3 .taken)))
 
--- src/flow.rt:38:1
 returns-4 : tie.Need-returns-4
-returns-4 c = ?
+returns-4 c =
+    let d = c .before .before in
+    sym (own (d .before .before) ∙ rw (d .header .given .1) (behind-whole _ _ (c .if3 .left)))
 
--- src/flow.rt:38:1
 returns-5 : tie.Need-returns-5
-returns-5 c = ?
+unfolding behind
+returns-5 c = sym (own (c .before .before) ∙ rw (c .enum-told .given .1))
 
 pub find-compressed-spec : {M : Type 1} → statement M
 find-compressed-spec =

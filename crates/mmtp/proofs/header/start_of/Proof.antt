@@ -1,66 +1,80 @@
+-- Why start_of meets its contract: the start without and with an extension, and the length against it.
+use Prim.Native.Nat.{_+_}
+use mathlib.Core.Path.{_≡_, sym, _∙_}
+use native.Mathlib.Omega.{arith}
+use Rattle.wire.specs.Bits.{bits-shift}
+use Rattle.wire.specs.Field.{be}
+use Rattle.mmtp.specs.Header.{
+  first,
+  payloadStart,
+  fixed-bounds,
+  no-extension,
+  with-extension,
+  start-low,
+  start-whole,
+  start-cut,
+}
 use borrow.Author.Needs.{needs}
 use Rattle.mmtp.proofs.header.start_of.Statement.{statement}
 use Rattle.mmtp.proofs.header.start_of.Tie as tie
-use Rattle.mmtp.proofs.header.start_of.Reads as reads
-use Rattle.mmtp.proofs.header.start_of.Lts as lts
-use Rattle.mmtp.proofs.header.fixed_bytes.Reads as fixed-bytes-reads
-use Rattle.wire.proofs.field.read16.Reads as read16-reads
 
--- src/header.rt:42:9
+-- X is 0
+short : (d : tie.Then2) → payloadStart (d .before .before .before .before .before .args .m .now) ≡ d .before .fixed-bytes .result
+short d = no-extension _ (λ q. d .if2 .taken (bits-shift _ 1 1 ∙ q)) ∙ sym (d .before .fixed-bytes .ensures)
+
+-- X is 1
+long : (d : tie.Else2) → let m = d .before .before .before .before .before .args .m .now in
+    let n = d .before .fixed-bytes .result in
+    payloadStart m ≡ n + 4 + be 2 m (n + 2)
+long d = rw (d .before .fixed-bytes .ensures) (with-extension _ (sym (bits-shift _ 1 1) ∙ d .if2 .left))
+
+whole : (d : tie.After-read16) → let f = d .before .before .before in
+    payloadStart (f .before .before .before .before .args .m .now) ≡ f .fixed-bytes .result + 4 + d .read16 .result
+whole d = rw (d .read16 .ensures) (long (d .before .before))
+
 returns : tie.Need-returns
-returns c = ?
+returns c = sym (start-cut _ (omega (arith, start-low (c .before .before .args .m .now))))
 
--- src/header.rt:44:17
 shared-slice-read-first : tie.Need-shared-slice-read-first
 shared-slice-read-first c = search needs
 
--- src/header.rt:45:9
 fixed-bytes-requires : tie.Need-fixed-bytes-requires
 fixed-bytes-requires c κs = search needs
 
--- src/header.rt:48:13
 returns-2 : tie.Need-returns-2
-returns-2 c = ?
+returns-2 c = sym (start-cut _ (omega (arith, short (c .before))))
 
--- src/header.rt:50:9
 returns-3 : tie.Need-returns-3
-returns-3 c = ?
+returns-3 c = rw (← short (c .before)) (sym (start-whole _ (omega (arith, short (c .before)))))
 
--- src/header.rt:52:14
 add-if4 : tie.Need-add-if4
-add-if4 c = ?
+add-if4 c =
+    let m = c .before .before .before .before .before .args .m .now in
+    omega (arith, c .before .fixed-bytes .ensures, fixed-bounds (first m))
 
--- src/header.rt:53:9
 returns-4 : tie.Need-returns-4
-returns-4 c = ?
+returns-4 c = sym (start-cut _ (omega (arith, long (c .before))))
 
--- src/header.rt:55:17
 add-start : tie.Need-add-start
 add-start c = search needs
 
--- src/header.rt:55:46
 add-read16 : tie.Need-add-read16
 add-read16 c = search needs
 
--- src/header.rt:55:29
 read16-requires : tie.Need-read16-requires
 read16-requires c κs = search needs
 
--- src/header.rt:55:29
 cast-start : tie.Need-cast-start
 cast-start c = search needs
 
--- src/header.rt:55:17
 add-start-2 : tie.Need-add-start-2
 add-start-2 c = search needs
 
--- src/header.rt:57:9
 returns-5 : tie.Need-returns-5
-returns-5 c = ?
+returns-5 c = sym (start-cut _ (omega (arith, whole (c .before))))
 
--- src/header.rt:37:1
 returns-6 : tie.Need-returns-6
-returns-6 c = ?
+returns-6 c = rw (← whole (c .before)) (sym (start-whole _ (omega (arith, whole (c .before)))))
 
 pub start-of-spec : {M : Type 1} → statement M
 start-of-spec =
