@@ -28,8 +28,11 @@ unfoldable pub fixedBytes : ℕ → ℕ
 fixedBytes x = cond (eqb (bitsAt 5 1 x) 1) 16 12
 
 -- with X a 16-bit type, a 16-bit length, that many bytes
+unfoldable pub extensionLength : List ℕ → ℕ
+extensionLength m = be 2 m (fixedBytes (first m) + 2)
+
 unfoldable pub extensionBytes : List ℕ → ℕ
-extensionBytes m = cond (eqb (bitsAt 1 1 (first m)) 1) (4 + be 2 m (fixedBytes (first m) + 2)) 0
+extensionBytes m = cond (eqb (bitsAt 1 1 (first m)) 1) (4 + extensionLength m) 0
 
 unfoldable pub payloadStart : List ℕ → ℕ
 payloadStart m = fixedBytes (first m) + extensionBytes m
@@ -90,7 +93,7 @@ module _ (m : List ℕ) where
   unfolding payloadStart extensionBytes
   no-extension x = rw (ne-eqb _ _ x) (omega arith)
 
-  pub with-extension : bitsAt 1 1 (first m) ≡ 1 → payloadStart m ≡ fixedBytes (first m) + 4 + be 2 m (fixedBytes (first m) + 2)
+  pub with-extension : bitsAt 1 1 (first m) ≡ 1 → payloadStart m ≡ fixedBytes (first m) + 4 + extensionLength m
   unfolding payloadStart extensionBytes
   with-extension x = rw (eq-eqb _ _ x) (omega arith)
 

@@ -5,3 +5,4 @@ pub mod Watch
 pub mod Unit
 pub mod Payload
 pub mod Packet
+pub mod Specimens

@@ -2,10 +2,10 @@
 use Prim.Native.Nat.{_+_}
 use mathlib.Core.Path.{_≡_, sym, _∙_}
 use native.Mathlib.Omega.{arith}
-use Rattle.wire.specs.Bits.{bits-shift}
-use Rattle.wire.specs.Field.{be}
+use Rattle.wire.specs.Bits.{bitsAt, bits-shift}
 use Rattle.mmtp.specs.Header.{
   first,
+  extensionLength,
   payloadStart,
   fixed-bounds,
   no-extension,
@@ -23,14 +23,17 @@ short : (d : tie.Then2) → payloadStart (d .before .before .before .before .bef
 short d = no-extension _ (λ q. d .if2 .taken (bits-shift _ 1 1 ∙ q)) ∙ sym (d .before .fixed-bytes .ensures)
 
 -- X is 1
+extended : (d : tie.Else2) → bitsAt 1 1 (first (d .before .before .before .before .before .args .m .now)) ≡ 1
+extended d = sym (bits-shift _ 1 1) ∙ d .if2 .left
+
 long : (d : tie.Else2) → let m = d .before .before .before .before .before .args .m .now in
-    let n = d .before .fixed-bytes .result in
-    payloadStart m ≡ n + 4 + be 2 m (n + 2)
-long d = rw (d .before .fixed-bytes .ensures) (with-extension _ (sym (bits-shift _ 1 1) ∙ d .if2 .left))
+    payloadStart m ≡ d .before .fixed-bytes .result + 4 + extensionLength m
+long d = rw (d .before .fixed-bytes .ensures) (with-extension _ (extended d))
 
 whole : (d : tie.After-read16) → let f = d .before .before .before in
     payloadStart (f .before .before .before .before .args .m .now) ≡ f .fixed-bytes .result + 4 + d .read16 .result
-whole d = rw (d .read16 .ensures) (long (d .before .before))
+unfolding extensionLength
+whole d = rw (d .read16 .ensures, d .before .before .before .fixed-bytes .ensures) (with-extension _ (extended (d .before .before)))
 
 returns : tie.Need-returns
 returns c = sym (start-cut _ (omega (arith, start-low (c .before .before .args .m .now))))
