@@ -31,7 +31,8 @@ watching id = record { ids = id ∷ []; n = 1 }
 abbrev pub HeaderSpecimens : Type 0
 HeaderSpecimens =
     -- "MMTP 0x22, extension length 4: payload at 24."
-    (headerOf (packet 0x22 extended) ≡ Good (record { «payload_type» = 2; «packet_id» = 0x1234; psn = record { 0 = 7 }; start = 24 }))
+    (headerOf (packet 0x22 extended)
+    ≡ Good (record { «payload_type» = 2; «packet_id» = 0x1234; psn = record { 0 = 7 }; start = 24 }))
     -- "0x40: 51."
     × (noteOf (readingOf (packet 0x40 message) (watching 0x1234)) ≡ 51)
 

@@ -33,7 +33,9 @@ long d = rw (d .before .fixed-bytes .ensures) (with-extension _ (extended d))
 whole : (d : tie.After-read16) → let f = d .before .before .before in
     payloadStart (f .before .before .before .before .args .m .now) ≡ f .fixed-bytes .result + 4 + d .read16 .result
 unfolding extensionLength
-whole d = rw (d .read16 .ensures, d .before .before .before .fixed-bytes .ensures) (with-extension _ (extended (d .before .before)))
+whole d =
+    let f = d .before .before .before in
+    rw (d .read16 .ensures, f .fixed-bytes .ensures) (with-extension _ (extended (d .before .before)))
 
 returns : tie.Need-returns
 returns c = sym (start-cut _ (omega (arith, start-low (c .before .before .args .m .now))))
