@@ -192,6 +192,16 @@ pub units-aggregated : (m : List ℕ) (p : Payload) → p .aggregated ≡ true
 unfolding unitsFit
 units-aggregated m p e = rw e
 
+-- and they are these
+pub pieces-single : (m : List ℕ) (p : Payload) → p .aggregated ≡ false → piecesOf m p ≡ pieceOf (p .kind) (drop (p .start) m) ∷ []
+unfolding piecesOf
+pieces-single m p e = rw e
+
+pub pieces-aggregated : (m : List ℕ) (p : Payload) → p .aggregated ≡ true
+    → piecesOf m p ≡ aggregate (drop (p .start) m) (p .kind) (p .wide) .pieces
+unfolding piecesOf
+pieces-aggregated m p e = rw e
+
 start-by : (m : List ℕ) (p : Payload) → unitsFit m p ≡ true → (t : Bool) → p .aggregated ≡ t → p .start ≤ length m
 start-by m p u true e =
     let f = aggregate-fits (drop (p .start) m) (p .kind) (p .wide) (sym (units-aggregated m p e) ∙ u) in

@@ -17,7 +17,7 @@ unfolding fieldBytes
 timed c = rw (c .match .keys1) at (c .before .before .pre)
 
 read32-requires : tie.Need-read32-requires
-read32-requires c κs = omega (arith, timed (c))
+read32-requires c κs = omega (arith, timed c)
 
 add-read32 : tie.Need-add-read32
 add-read32 c = search needs

@@ -10,6 +10,7 @@ use Rattle.mmtp.specs.Unit.{fieldBytes, lengthBytes, unitFits, unitAt, u
 use Rattle.mmtp.proofs.unit.unit_at.Statement.{statement}
 use Rattle.mmtp.proofs.unit.unit_at.Tie as tie
 
+-- what the span tells
 spans : (c : tie.After-known-told) → let a = c .before .before .before .before .before .before .args in
     (unitFits (drop (a .at) (a .m .now)) (a .kind) (a .wide) ≡ true)
     × (c .before .span .given .0 .0 ≡ unitEnd (a .m .now) (a .at) (a .wide))
