@@ -95,6 +95,20 @@ module _ {A : Type 0} where
         let s = step (f (x .1 .place)) (x .0) (x .1) in
         s .events ++ run (withLine f (x .1 .place) (s .line)) xs
 
+    -- the line of each place after a list of packets
+    unfoldable pub linesAfter : (ℕ → Line A) → List (A × Input) → ℕ → Line A
+    linesAfter f [] = f
+    linesAfter f (x ∷ xs) =
+        let s = step (f (x .1 .place)) (x .0) (x .1) in
+        linesAfter (withLine f (x .1 .place) (s .line)) xs
+
+    -- the events of one packet_id, whose packets alone are in the list
+    unfoldable pub runLine : Line A → List (A × Input) → List (Event A)
+    runLine l [] = []
+    runLine l (x ∷ xs) =
+        let s = step l (x .0) (x .1) in
+        s .events ++ runLine (s .line) xs
+
   abbrev pub units : List (Event A) → List (Labelled A)
   units [] = []
   units (note n i ∷ es) = units es
