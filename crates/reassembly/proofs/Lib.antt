@@ -1,0 +1,6 @@
+pub mod Events
+pub mod Steps
+pub mod Sent
+pub mod Beside
+pub mod Loss
+pub mod Runs

@@ -1,0 +1,9 @@
+pub mod Lists
+pub mod Unit
+pub mod Channel
+pub mod Join
+pub mod Run
+pub mod Sent
+pub mod Claims
+pub mod Lost
+pub mod Specimens
