@@ -1,3 +1,4 @@
+-- The definitions of packets, their laws, and the specimens.
 pub mod Cases
 pub mod Flow
 pub mod Header

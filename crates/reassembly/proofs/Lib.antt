@@ -1,3 +1,4 @@
+-- The theorems of reassembly over lists of packets, and what they rest on.
 pub mod Events
 pub mod Steps
 pub mod Sent

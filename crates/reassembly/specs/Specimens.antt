@@ -39,7 +39,9 @@ pub record Seen : Type 0 where
 -- what each piece gives, the limit being R
 unfoldable pub seen : ℕ → Channel → List Piece → List Seen
 seen limit ch [] = []
-seen limit ch (p ∷ ps) = record { notes = notesOf (joinOf ch p limit); action = joinOf ch p limit .action } ∷ seen limit (joinOf ch p limit .channel) ps
+seen limit ch (p ∷ ps) =
+    let j = joinOf ch p limit in
+    record { notes = notesOf j; action = j .action } ∷ seen limit (j .channel) ps
 
 abbrev pub quiet : Action → Seen
 quiet a = record { notes = []; action = a }

@@ -12,7 +12,9 @@ is-heard-requires c κs = search needs
 
 returns : tie.Need-returns
 unfolding gap
-returns c = rw (← c .before .before .before .is-heard .ensures, c .before .before .if1 .taken, c .before .before .before .before .next-psn .ensures)
+returns c =
+    rw
+    (← c .before .before .before .is-heard .ensures, c .before .before .if1 .taken, c .before .before .before .before .next-psn .ensures)
 
 returns-2 : tie.Need-returns-2
 unfolding gap

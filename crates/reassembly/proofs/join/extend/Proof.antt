@@ -14,7 +14,9 @@ keep-requires : tie.Need-keep-requires
 keep-requires c κs = search needs
 
 returns : tie.Need-returns
-returns c = c .keep .ensures ∙ sym (extended-apart _ _ _ _ (sym (c .before .before .agree .ensures) ∙ not-true _ (c .before .if1 .taken)))
+returns c =
+    c .keep .ensures
+    ∙ sym (extended-apart _ _ _ _ (sym (c .before .before .agree .ensures) ∙ not-true _ (c .before .if1 .taken)))
 
 counter-follows-requires : tie.Need-counter-follows-requires
 counter-follows-requires c κs = search needs
@@ -36,7 +38,9 @@ returns-3 : tie.Need-returns-3
 returns-3 c =
     let e = c .before .before .before in
     let d = e .before in
-    c .keep3 .ensures ∙ sym (extended-over _ _ _ _ (sym (d .before .before .agree .ensures) ∙ not-false _ (d .before .if1 .left)) (sym (d .counter-follows .ensures) ∙ not-false _ (e .if2 .left)) (omega arith))
+    let agreed = sym (d .before .before .agree .ensures) ∙ not-false _ (d .before .if1 .left) in
+    let counted = sym (d .counter-follows .ensures) ∙ not-false _ (e .if2 .left) in
+    c .keep3 .ensures ∙ sym (extended-over _ _ _ _ agreed counted (omega arith))
 
 keep-requires-4 : tie.Need-keep-requires-4
 keep-requires-4 c κs = search needs
@@ -45,7 +49,9 @@ returns-4 : tie.Need-returns-4
 returns-4 c =
     let e = c .before .before .before .before .before in
     let d = e .before in
-    c .keep4 .ensures ∙ sym (extended-over _ _ _ _ (sym (d .before .before .agree .ensures) ∙ not-false _ (d .before .if1 .left)) (sym (d .counter-follows .ensures) ∙ not-false _ (e .if2 .left)) (omega arith))
+    let agreed = sym (d .before .before .agree .ensures) ∙ not-false _ (d .before .if1 .left) in
+    let counted = sym (d .counter-follows .ensures) ∙ not-false _ (e .if2 .left) in
+    c .keep4 .ensures ∙ sym (extended-over _ _ _ _ agreed counted (omega arith))
 
 grow-requires : tie.Need-grow-requires
 grow-requires c κs = search needs
@@ -54,7 +60,9 @@ returns-5 : tie.Need-returns-5
 returns-5 c =
     let e = c .before .before .before .before .before in
     let d = e .before in
-    c .grow .ensures ∙ sym (extended-on _ _ _ _ (sym (d .before .before .agree .ensures) ∙ not-false _ (d .before .if1 .left)) (sym (d .counter-follows .ensures) ∙ not-false _ (e .if2 .left)) (omega arith))
+    let agreed = sym (d .before .before .agree .ensures) ∙ not-false _ (d .before .if1 .left) in
+    let counted = sym (d .counter-follows .ensures) ∙ not-false _ (e .if2 .left) in
+    c .grow .ensures ∙ sym (extended-on _ _ _ _ agreed counted (omega arith))
 
 pub extend-spec : {M : Type 1} → statement M
 extend-spec =

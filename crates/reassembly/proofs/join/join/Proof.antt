@@ -12,7 +12,9 @@ act-requires c κs = search needs
 
 returns : tie.Need-returns
 unfolding joinOf
-returns c = rw (← c .before .before .before .before .before .is-gap .ensures, c .before .before .before .before .if1 .taken, c .before .act .ensures)
+returns c =
+    rw
+    (← c .before .before .before .before .before .is-gap .ensures, c .before .before .before .before .if1 .taken, c .before .act .ensures)
 
 act-requires-2 : tie.Need-act-requires-2
 act-requires-2 c κs = search needs

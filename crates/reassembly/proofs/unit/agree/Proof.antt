@@ -22,14 +22,24 @@ returns-4 : tie.Need-returns-4
 unfolding agrees
 returns-4 c =
     let d = c .before .before .before .before .before .before .before .before in
-    rw (eq-eqb _ _ (d .before .before .before .if1 .left), eq-eqb _ _ (d .if2 .left), eq-eqb _ _ (c .before .before .before .if3 .left), ne-eqb _ _ (c .if4 .taken))
+    rw (
+      eq-eqb _ _ (d .before .before .before .if1 .left),
+      eq-eqb _ _ (d .if2 .left),
+      eq-eqb _ _ (c .before .before .before .if3 .left),
+      ne-eqb _ _ (c .if4 .taken),
+    )
 
 returns-5 : tie.Need-returns-5
 unfolding agrees
 returns-5 c =
     let e = c .before .before in
     let d = e .before .before .before .before .before .before .before .before in
-    rw (eq-eqb _ _ (d .before .before .before .if1 .left), eq-eqb _ _ (d .if2 .left), eq-eqb _ _ (e .before .before .before .if3 .left), eq-eqb _ _ (e .if4 .left))
+    rw (
+      eq-eqb _ _ (d .before .before .before .if1 .left),
+      eq-eqb _ _ (d .if2 .left),
+      eq-eqb _ _ (e .before .before .before .if3 .left),
+      eq-eqb _ _ (e .if4 .left),
+    )
 
 pub agree-spec : {M : Type 1} → statement M
 agree-spec = tie.close (tie.spec returns returns-2 returns-3 returns-4 returns-5)

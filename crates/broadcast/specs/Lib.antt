@@ -1,0 +1,2 @@
+-- The claims about broadcasts as a whole.
+pub mod Specimens

@@ -1,0 +1,1 @@
+// What is proved of broadcasts as a whole; no code.
