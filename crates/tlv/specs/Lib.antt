@@ -4,4 +4,6 @@ pub mod Cuts
 pub mod Walks
 pub mod Slot
 pub mod Held
+pub mod Run
+pub mod Row
 pub mod Specimens
