@@ -1,0 +1,4 @@
+-- What is proved of slots to packets beside the code.
+pub mod Runs
+pub mod Answers
+pub mod Loss
