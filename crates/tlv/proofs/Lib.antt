@@ -2,3 +2,5 @@
 pub mod Runs
 pub mod Answers
 pub mod Loss
+pub mod RowCuts
+pub mod Rows

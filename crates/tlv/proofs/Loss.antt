@@ -1,22 +1,22 @@
 -- Why lost slots take away exactly the packets that have one of their labels: the reading of all slots and that of the kept
 -- ones are in step, or the second one searches while bytes that the first one holds came in a slot that is not kept.
-use Prim.Native.Nat.{ℕ, _<_}
-use mathlib.Core.Path.{_≡_, refl, sym, ap, _∙_}
+use Prim.Native.Nat.{ℕ}
+use mathlib.Core.Path.{_≡_, refl, sym, _∙_}
 use mathlib.Core.Bool.{Bool, true, false, cond, _&&_, and-true, and-false}
 use mathlib.Core.List.{List, [], _∷_, _++_, map}
 use native.Mathlib.Omega.{arith}
-use lib.ListN.{length, take, drop}
+use lib.ListN.{take, drop}
 use Rattle.tlv.specs.declared.held.Continuation.{Continuation}
 use Rattle.tlv.specs.declared.held.Continuation.the-variants.{TooLong, Misfit, Ends, GoesOn}
-use Rattle.tlv.specs.Packet.{cut, tooLong}
+use Rattle.tlv.specs.Packet.{cut}
 use Rattle.tlv.specs.Slot.{sound}
-use Rattle.tlv.specs.Run.{Slot, withoutTop, Labelled, Event, note, State, searching, held, Stepped, Arrival, lost, given}
-use Rattle.tlv.specs.Run.{packetOf, after, stops, kept, readFrom, finished, resumed, arrived, step, run, packets, Clean}
+use Rattle.tlv.specs.Run.{Slot, Labelled, Event, note, State, searching, held, Stepped, lost, given}
+use Rattle.tlv.specs.Run.{packetOf, after, kept, readFrom, finished, resumed, arrived, step, run, packets}
 use Rattle.tlv.specs.Run.{intact, arrival, damaged}
 use Rattle.tlv.specs.Lists.{sift, all, sift-append, all-append}
 use Rattle.tlv.specs.Claims.{RunLoss}
 use Rattle.tlv.proofs.Answers.{Says, says}
-use Rattle.tlv.proofs.Runs.{lost-stops, step-given, clean-left, clean-right, packets-append}
+use Rattle.tlv.proofs.Runs.{lost-stops, step-given, packets-append}
 
 module _ {A : Type 0} (keep : A → Bool) where
   unfoldable whole : Labelled A → Bool
@@ -72,7 +72,8 @@ module _ {A : Type 0} (keep : A → Bool) where
   finished-left true ls (x ∷ h) a c k = same-labels true (ls ++ (a ∷ [])) ((x ∷ h ++ c) ∷ []) k
   finished-left false ls (x ∷ h) a c k = same-labels false (ls ++ (a ∷ [])) ((x ∷ h ++ c) ∷ []) k
 
-  after-gives : (b : Bool) (es : List (Event A)) (r : Stepped A) → left es ≡ cond b (packets es) [] → Gives b r → Gives b (after es r)
+  after-gives : (b : Bool) (es : List (Event A)) (r : Stepped A) → left es ≡ cond b (packets es) [] → Gives b r
+      → Gives b (after es r)
   after-gives true es r e (gives f c) = gives (left-append es (r .events) ∙ rw (e, f, packets-append es (r .events))) c
   after-gives false es r e (gives f c) = gives (left-append es (r .events) ∙ rw (e, f)) c
 
@@ -151,59 +152,52 @@ module _ {A : Type 0} (keep : A → Bool) where
 
   -- a kept slot comes to held bytes that did not come in kept slots only: beside it, the same slot while searching
   resumed-adrift : (c : Continuation) (n : Bool) (ls : List A) (h : List ℕ) (a : A) (s : Slot) → keep a ≡ true
-      → Carries false (held ls h) → Says c n h (s .bytes) (s .top) → Clean (resumed c n ls h a s .events)
-      → Steps (resumed c n ls h a s) (readFrom n a s)
+      → Carries false (held ls h) → Says c n h (s .bytes) (s .top) → Steps (resumed c n ls h a s) (readFrom n a s)
   unfolding resumed readFrom
-  resumed-adrift TooLong n ls h a s k c m q = absurd q
-  resumed-adrift Misfit n ls h a s k c m q = absurd q
-  resumed-adrift (Ends e) true ls h a s k c m q = (adrift refl tt, sym (finished-lost ls h a (take e (s .bytes)) c))
-  resumed-adrift (Ends e) false ls h a s k c m q =
+  resumed-adrift TooLong n ls h a s k c m = again (read-gives true a k n s)
+  resumed-adrift Misfit n ls h a s k c m = again (read-gives true a k n s)
+  resumed-adrift (Ends e) true ls h a s k c m = (adrift refl tt, sym (finished-lost ls h a (take e (s .bytes)) c))
+  resumed-adrift (Ends e) false ls h a s k c m =
       let b : List ℕ = take e (s .bytes) in
       let g = read-gives true a k false s in
       let l : left (finished ls h a b ++ readFrom false a s .events) ≡ packets (readFrom false a s .events) =
       left-append (finished ls h a b) (readFrom false a s .events) ∙ rw (finished-lost ls h a b c) (left-of g) in
       (in-step refl (held-of g), sym l)
-  resumed-adrift GoesOn true ls [] a s k c m q = absurd (omega arith)
-  resumed-adrift GoesOn true ls (x ∷ h) a s k c m q = (adrift refl (still-lost ls a c), refl)
-  resumed-adrift GoesOn false ls h a s k c m q = absurd m
+  resumed-adrift GoesOn true ls [] a s k c m = absurd (omega arith)
+  resumed-adrift GoesOn true ls (x ∷ h) a s k c m = (adrift refl (still-lost ls a c), refl)
+  resumed-adrift GoesOn false ls h a s k c m = absurd m
 
-  arrived-adrift : (i : Bool) (u : State A) (a : A) (s : Slot) → keep a ≡ true → Carries false u → Clean (arrived i u a s .events)
+  arrived-adrift : (i : Bool) (u : State A) (a : A) (s : Slot) → keep a ≡ true → Carries false u
       → Steps (arrived i u a s) (arrived i searching a s)
   unfolding arrived
-  arrived-adrift false u a s k c q = absurd q
-  arrived-adrift true searching a s k c q = again (read-gives true a k _ s)
-  arrived-adrift true (held ls h) a s k c q = resumed-adrift _ _ ls h a s k c (says h (s .bytes) (s .top) (s .last)) q
+  arrived-adrift false u a s k c = (in-step refl tt, refl)
+  arrived-adrift true searching a s k c = again (read-gives true a k _ s)
+  arrived-adrift true (held ls h) a s k c = resumed-adrift _ _ ls h a s k c (says h (s .bytes) (s .top) (s .last))
 
-  step-kept : (u d : State A) (a : A) (s : Slot) → keep a ≡ true → Meets u d → Clean (step u (given a s) .events)
-      → Steps (step u (given a s)) (step d (given a s))
-  step-kept u d a s k (in-step e c) q =
-      let g = arrived-gives true a k (sound (s .bytes) (s .top) (s .last)) u s c in
-      rw (← e, step-given u a s) (again g)
-  step-kept u d a s k (adrift e c) q =
-      rw (e, step-given u a s, step-given searching a s) (arrived-adrift _ u a s k c (rw (step-given u a s) at q))
+  step-kept : (u d : State A) (a : A) (s : Slot) → keep a ≡ true → Meets u d → Steps (step u (given a s)) (step d (given a s))
+  step-kept u d a s k (in-step e c) = rw (← e, step-given u a s) (again (arrived-gives true a k _ u s c))
+  step-kept u d a s k (adrift e c) = rw (e, step-given u a s, step-given searching a s) (arrived-adrift _ u a s k c)
 
   step-lost : (u d : State A) (a : A) (s : Slot) → keep a ≡ false → Steps (step u (given a s)) (step d lost)
   step-lost u d a s k =
       let g = arrived-gives false a k (sound (s .bytes) (s .top) (s .last)) u s tt in
       rw (step-given u a s) (adrift (lost-stops d .1) (held-of g), lost-stops d .0 ∙ sym (left-of g))
 
-  step-any : (b : Bool) (u d : State A) (x : A × Slot) → keep (x .0) ≡ b → Meets u d → Clean (step u (given (x .0) (x .1)) .events)
+  step-any : (b : Bool) (u d : State A) (x : A × Slot) → keep (x .0) ≡ b → Meets u d
       → Steps (step u (given (x .0) (x .1))) (step d (arrival b x))
-  step-any true u d x k m q = step-kept u d (x .0) (x .1) k m q
-  step-any false u d x k m q = step-lost u d (x .0) (x .1) k
+  step-any true u d x k m = step-kept u d (x .0) (x .1) k m
+  step-any false u d x k m = step-lost u d (x .0) (x .1) k
 
-  runs : (xs : List (A × Slot)) (u d : State A) → Meets u d → Clean (run u (intact xs))
-      → packets (run d (damaged keep xs)) ≡ left (run u (intact xs))
+  runs : (xs : List (A × Slot)) (u d : State A) → Meets u d → packets (run d (damaged keep xs)) ≡ left (run u (intact xs))
   unfolding run
-  runs [] u d m q = refl
-  runs (x ∷ xs) u d m q =
+  runs [] u d m = refl
+  runs (x ∷ xs) u d m =
       let r = step u (given (x .0) (x .1)) in
       let w = step d (arrival (keep (x .0)) x) in
-      let t = step-any (keep (x .0)) u d x refl m (clean-left (r .events) (run (r .state) (intact xs)) q) in
-      let ih = runs xs (r .state) (w .state) (t .0) (clean-right (r .events) (run (r .state) (intact xs)) q) in
+      let t = step-any (keep (x .0)) u d x refl m in
       packets-append (w .events) (run (w .state) (damaged keep xs))
-      ∙ rw (t .1, ih) (sym (left-append (r .events) (run (r .state) (intact xs))))
+      ∙ rw (t .1, runs xs (r .state) (w .state) (t .0)) (sym (left-append (r .events) (run (r .state) (intact xs))))
 
 pub run-loss : RunLoss
 unfolding whole
-run-loss A keep xs q = runs keep xs searching searching (in-step refl tt) q
+run-loss A keep xs = runs keep xs searching searching (in-step refl tt)

@@ -1,6 +1,6 @@
 -- Slots one after another: lists of them joined, lost ones, and what the events of a step say.
 use Prim.Native.Nat.{ℕ, zero, suc}
-use mathlib.Core.Path.{_≡_, refl, sym, ap, _∙_}
+use mathlib.Core.Path.{_≡_, refl, sym, ap}
 use mathlib.Core.List.{List, [], _∷_, _++_, append-assoc}
 use lib.ListN.{replicate}
 use Rattle.tlv.specs.Slot.{sound}

@@ -28,9 +28,9 @@ module _ {A : Type 0} where
   abbrev pub seenInRow : (A → Bool) → List (A × ℕ) → Seen
   seenInRow keep q = record { kept = all keep (labelsOf q); bytes = bytesOf q }
 
--- where nothing is noted, lost slots take away exactly the packets that have one of their labels
+-- lost slots take away exactly the packets that have one of their labels, whatever is noted
 abbrev pub RunLoss : Type 1
-RunLoss = (A : Type 0) (keep : A → Bool) (xs : List (A × Slot)) → Clean (run searching (intact xs))
+RunLoss = (A : Type 0) (keep : A → Bool) (xs : List (A × Slot))
     → packets (run searching (damaged keep xs))
     ≡ sift (λ (p : Labelled A). all keep (p .labels)) (packets (run searching (intact xs)))
 

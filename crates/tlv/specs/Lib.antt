@@ -8,4 +8,5 @@ pub mod Run
 pub mod Row
 pub mod Lists
 pub mod Claims
+pub mod Fades
 pub mod Specimens
