@@ -1,0 +1,6 @@
+-- What is proved of slots to packets beside the code.
+pub mod Runs
+pub mod Answers
+pub mod Loss
+pub mod RowCuts
+pub mod Rows
