@@ -12,7 +12,7 @@ use Rattle.mmtp.specs.declared.payload.Indicator.the-variants.{Whole, First, Mi
 use Rattle.reassembly.specs.declared.channel.Phase.{Phase}
 use Rattle.reassembly.specs.declared.channel.Phase.the-variants.{Unheard, Waiting, Idle, Open}
 use Rattle.reassembly.specs.declared.channel.Channel.{Channel}
-use Rattle.reassembly.specs.Lists.{all, all-last, not-all-last, not-all-before}
+use Rattle.wire.specs.Lists.{all, all-last, not-all-last, not-all-before}
 use Rattle.reassembly.specs.Channel.{nextPsn, heard, gap}
 use Rattle.reassembly.specs.Join.{begun, followed, interrupted, notesOf}
 use Rattle.reassembly.specs.Run.{Content, Input, Line, Stepped, labelled, step, units, Clean}

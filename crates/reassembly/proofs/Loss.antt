@@ -7,7 +7,7 @@ use native.Mathlib.Omega.{arith}
 use lib.ListN.{length}
 use lib.Dec.{eqb}
 use borrow.Author.Tests.{eqb-true}
-use Rattle.reassembly.specs.Lists.{put, all, sift-append}
+use Rattle.wire.specs.Lists.{put, all, sift-append}
 use Rattle.reassembly.specs.Channel.{unheard}
 use Rattle.reassembly.specs.Run.{Input, Labelled, Event, Line, Stepped, fresh, step, withLine, run, runLine}
 use Rattle.reassembly.specs.Run.{units, Clean, count}

@@ -4,7 +4,7 @@ use mathlib.Core.Bool.{Bool, true, false, _&&_, false≢true}
 use mathlib.Core.List.{List, [], _∷_, _++_, append-assoc}
 use lib.Dec.{eqb}
 use borrow.Author.Tests.{eqb-true}
-use Rattle.reassembly.specs.Lists.{all}
+use Rattle.wire.specs.Lists.{all}
 use Rattle.reassembly.specs.Run.{Event, Line, step, withLine, run, runLine, linesAfter}
 use Rattle.reassembly.specs.Claims.{RunAppend, RunAlone}
 

@@ -5,7 +5,7 @@ use mathlib.Core.Bool.{Bool, true}
 use mathlib.Core.List.{List, _++_}
 use lib.Dec.{eqb}
 use lib.ListN.{length}
-use Rattle.reassembly.specs.Lists.{sift, all}
+use Rattle.wire.specs.Lists.{sift, all}
 use Rattle.reassembly.specs.Run.{Input, Labelled, Line, fresh, run, runLine, linesAfter, units, Clean, count}
 use Rattle.reassembly.specs.Sent.{sent}
 

@@ -1,4 +1,4 @@
-pub mod Lists
+-- The definitions of joining, its laws and claims, and the specimens.
 pub mod Unit
 pub mod Channel
 pub mod Join

@@ -13,7 +13,7 @@ use Rattle.tlv.specs.Slot.{sound}
 use Rattle.tlv.specs.Run.{Slot, Labelled, Event, note, State, searching, held, Stepped, lost, given}
 use Rattle.tlv.specs.Run.{packetOf, after, kept, readFrom, finished, resumed, arrived, step, run, packets}
 use Rattle.tlv.specs.Run.{intact, arrival, damaged}
-use Rattle.tlv.specs.Lists.{sift, all, sift-append, all-append}
+use Rattle.wire.specs.Lists.{sift, all, sift-append, all-append}
 use Rattle.tlv.specs.Claims.{RunLoss}
 use Rattle.tlv.proofs.Answers.{Says, says}
 use Rattle.tlv.proofs.Runs.{lost-stops, step-given, packets-append}

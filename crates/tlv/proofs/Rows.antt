@@ -16,7 +16,7 @@ use Rattle.tlv.specs.Held.{heldEnd}
 use Rattle.tlv.specs.Run.{Slot, withoutTop, Labelled, Event, State, searching, held, Stepped, given}
 use Rattle.tlv.specs.Run.{packetOf, after, kept, readFrom, finished, resumed, arrived, step, run, packets, Clean, intact}
 use Rattle.tlv.specs.Row.{tagged, bytesOf, labelsOf, allBytes, row, packetsBy, rowPackets}
-use Rattle.tlv.specs.Lists.{sift, all, all-append, sift-map}
+use Rattle.wire.specs.Lists.{sift, all, all-append, sift-map}
 use Rattle.tlv.specs.Claims.{Seen, Filled, seen, seenInRow, RunRow, RowLoss}
 use Rattle.tlv.proofs.Answers.{endOf, Says, says, top-inside, ends-past, ends-sized, goes-open}
 use Rattle.tlv.proofs.Runs.{step-given, clean-left, clean-right, packets-append}

@@ -7,7 +7,7 @@ use lib.ListN.{length, replicate}
 use Rattle.tlv.specs.Packet.{cut}
 use Rattle.tlv.specs.Run.{Slot, Labelled, State, searching, Arrival, lost, run, stateAfter, packets, Clean, intact, damaged}
 use Rattle.tlv.specs.Row.{bytesOf, labelsOf, row, rowPackets}
-use Rattle.tlv.specs.Lists.{sift, all}
+use Rattle.wire.specs.Lists.{sift, all}
 
 -- a packet as it is compared: whether each label of it is kept, and its bytes
 pub record Seen : Type 0 where

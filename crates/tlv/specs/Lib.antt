@@ -6,7 +6,6 @@ pub mod Slot
 pub mod Held
 pub mod Run
 pub mod Row
-pub mod Lists
 pub mod Claims
 pub mod Fades
 pub mod Specimens

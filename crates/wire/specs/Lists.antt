@@ -39,3 +39,19 @@ module _ {A B : Type 0} where
   pub sift-map : (f : A → B) (p : B → Bool) (l : List A) → sift p (map f l) ≡ map f (sift (λ (x : A). p (f x)) l)
   sift-map f p [] = refl
   sift-map f p (x ∷ xs) = rw (sift-map f p xs) (map-put f (p (f x)) x (sift (λ (x : A). p (f x)) xs))
+
+-- an element behind a list
+module _ {A : Type 0} (p : A → Bool) (l : List A) (x : A) where
+  pub all-last : all p l ≡ true → p x ≡ true → all p (l ++ (x ∷ [])) ≡ true
+  all-last h k = rw (all-append p l (x ∷ []), h, k)
+
+  -- ... that fails the test, or a list of which one fails it
+  pub not-all-last : p x ≡ false → all p (l ++ (x ∷ [])) ≡ false
+  not-all-last k = rw (all-append p l (x ∷ []), k) (go (all p l))
+    where
+      go : (b : Bool) → b && false ≡ false
+      go true = refl
+      go false = refl
+
+  pub not-all-before : all p l ≡ false → all p (l ++ (x ∷ [])) ≡ false
+  not-all-before h = rw (all-append p l (x ∷ []), h)
