@@ -1,0 +1,53 @@
+// An MMTP packet, read: header, watch list and payload, in this order.
+ghost use mathlib.Core.Path.{_≡_};
+ghost use Rattle.mmtp.specs.Packet.{readingOf};
+use crate::header::HeaderRead;
+use crate::header::Psn;
+use crate::payload::Payload;
+use crate::payload::PayloadRead;
+use crate::watch::Found;
+use crate::watch::Watch;
+
+// A packet of a watched packet_id.
+pub struct Packet {
+    // The place of its packet_id in the watch list.
+    pub place: usize,
+    pub packet_id: u16,
+    pub psn: Psn,
+    pub payload: Payload,
+}
+
+pub enum Reading {
+    // Not watched.
+    Silent,
+    // Note 51.
+    BadHeader,
+    // Note 52, with the packet_id.
+    BadPayload(u16),
+    Good(Packet),
+}
+
+pub fn read(m: &[u8], watch: Watch) -> Reading
+    ensures { λ r. ⌜ r ≡ readingOf (now (m .entry)) watch ⌝ }
+{
+    let heading = crate::header::read(m);
+    let HeaderRead::Good(h) = heading else {
+        return Reading::BadHeader;
+    };
+    let packet_id = h.packet_id;
+    let found = crate::watch::lookup(watch, packet_id);
+    let Found::At(place) = found else {
+        return Reading::Silent;
+    };
+    let body = crate::payload::read(m, h.start, h.payload_type);
+    let PayloadRead::Good(payload) = body else {
+        return Reading::BadPayload(packet_id);
+    };
+    let psn = h.psn;
+    Reading::Good(Packet {
+        place,
+        packet_id,
+        psn,
+        payload,
+    })
+}
