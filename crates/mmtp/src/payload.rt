@@ -1,6 +1,7 @@
 // The payload header, for MPU fragments and signalling messages.
 ghost use mathlib.Core.Path.{_≡_};
-ghost use Rattle.mmtp.specs.Payload.{indicatorOf, fragmentTypeOf, mpuOf, signallingOf, parsedOf, counterFits, aggregationFits, unitsFit, payloadOf};
+ghost use Rattle.mmtp.specs.Payload.{indicatorOf, fragmentTypeOf, mpuOf, signallingOf, parsedOf};
+ghost use Rattle.mmtp.specs.Payload.{counterFits, aggregationFits, unitsFit, payloadOf};
 use wire::field;
 
 // The fragmentation indicator, FI: 00, 01, 10, 11.
@@ -164,10 +165,7 @@ fn units_fit(m: &[u8], p: Payload) -> bool
     if p.aggregated {
         return crate::unit::aggregate_fits(m, start, kind, p.wide);
     }
-    if m.len() < start {
-        return false;
-    }
-    crate::unit::field_bytes(kind) <= m.len() - start
+    crate::unit::single_fits(m, start, kind)
 }
 
 // The payload at `at`, its data units tested too.

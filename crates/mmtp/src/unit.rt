@@ -3,7 +3,7 @@ ghost use mathlib.Core.Path.{_≡_};
 ghost use Prim.Native.Nat.{_+_, _≤_, _<_};
 ghost use lib.ListN.{length, drop};
 ghost use Rattle.wire.specs.Field.{be};
-ghost use Rattle.mmtp.specs.Unit.{fieldBytes, fieldsOf, lengthBytes, spanAt, unitAt, aggregateFits};
+ghost use Rattle.mmtp.specs.Unit.{fieldBytes, fieldsOf, lengthBytes, spanAt, unitAt, singleFits, singleAt, aggregateFits};
 use wire::field;
 
 // The fields of a data unit; 0 where its kind has none.
@@ -132,6 +132,29 @@ pub fn unit_at(m: &[u8], at: usize, kind: u8, wide: bool) -> Step
     let from = at + length_bytes(wide);
     let fields = fields_at(m, from, kind);
     let start = from + field_bytes(kind);
+    Step::Unit(DataUnit { fields, start, end })
+}
+
+// Whether the bytes from `at` have the fields of a data unit that is not aggregated.
+pub fn single_fits(m: &[u8], at: usize, kind: u8) -> bool
+    ensures { λ r. ⌜ r ≡ singleFits (now (m .entry)) at kind ⌝ }
+{
+    if m.len() < at {
+        return false;
+    }
+    field_bytes(kind) <= m.len() - at
+}
+
+// The data unit at `at` that is not aggregated: the rest of the packet.
+pub fn single_at(m: &[u8], at: usize, kind: u8) -> Step
+    ensures { λ r. ⌜ r ≡ singleAt (now (m .entry)) at kind ⌝ }
+{
+    if !single_fits(m, at, kind) {
+        return Step::Malformed;
+    }
+    let fields = fields_at(m, at, kind);
+    let start = at + field_bytes(kind);
+    let end = m.len();
     Step::Unit(DataUnit { fields, start, end })
 }
 

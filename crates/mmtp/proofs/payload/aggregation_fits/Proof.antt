@@ -1,44 +1,41 @@
+-- Why aggregation_fits meets its contract: by the flag and the indicator.
+use borrow.Author.Tests.{not-true, not-false}
 use borrow.Author.Needs.{needs}
+use Rattle.mmtp.specs.Payload.{aggregationFits}
 use Rattle.mmtp.proofs.payload.aggregation_fits.Statement.{statement}
 use Rattle.mmtp.proofs.payload.aggregation_fits.Tie as tie
-use Rattle.mmtp.proofs.payload.aggregation_fits.Reads as reads
-use Rattle.mmtp.proofs.payload.aggregation_fits.Lts as lts
 
--- src/payload.rt:148:9
 returns : tie.Need-returns
-returns c = ?
+unfolding aggregationFits
+returns c = rw (not-true (c .before .args .aggregated) (c .if1 .taken))
 
--- src/payload.rt:151:29
 enum-told : tie.Need-enum-told
 enum-told c = search needs
 
--- src/payload.rt:152:29
 enum-told-2 : tie.Need-enum-told-2
 enum-told-2 c = search needs
 
--- src/payload.rt:153:30
 enum-told-3 : tie.Need-enum-told-3
 enum-told-3 c = search needs
 
--- src/payload.rt:154:28
 enum-told-4 : tie.Need-enum-told-4
 enum-told-4 c = search needs
 
--- src/payload.rt:144:1
 returns-2 : tie.Need-returns-2
-returns-2 c = ?
+unfolding aggregationFits
+returns-2 c = rw (not-false (c .before .before .before .args .aggregated) (c .before .before .if1 .left), c .enum-told .given .1)
 
--- src/payload.rt:144:1
 returns-3 : tie.Need-returns-3
-returns-3 c = ?
+unfolding aggregationFits
+returns-3 c = rw (not-false (c .before .before .before .args .aggregated) (c .before .before .if1 .left), c .enum-told2 .given .1)
 
--- src/payload.rt:144:1
 returns-4 : tie.Need-returns-4
-returns-4 c = ?
+unfolding aggregationFits
+returns-4 c = rw (not-false (c .before .before .before .args .aggregated) (c .before .before .if1 .left), c .enum-told3 .given .1)
 
--- src/payload.rt:144:1
 returns-5 : tie.Need-returns-5
-returns-5 c = ?
+unfolding aggregationFits
+returns-5 c = rw (not-false (c .before .before .before .args .aggregated) (c .before .before .if1 .left), c .enum-told4 .given .1)
 
 pub aggregation-fits-spec : {M : Type 1} → statement M
 aggregation-fits-spec =

@@ -1,40 +1,36 @@
+-- Why counter_fits meets its contract: by the indicator.
 use borrow.Author.Needs.{needs}
+use Rattle.mmtp.specs.Payload.{counterFits}
 use Rattle.mmtp.proofs.payload.counter_fits.Statement.{statement}
 use Rattle.mmtp.proofs.payload.counter_fits.Tie as tie
-use Rattle.mmtp.proofs.payload.counter_fits.Reads as reads
-use Rattle.mmtp.proofs.payload.counter_fits.Lts as lts
 
--- src/payload.rt:136:29
 enum-told : tie.Need-enum-told
 enum-told c = search needs
 
--- src/payload.rt:137:29
 enum-told-2 : tie.Need-enum-told-2
 enum-told-2 c = search needs
 
--- src/payload.rt:138:30
 enum-told-3 : tie.Need-enum-told-3
 enum-told-3 c = search needs
 
--- src/payload.rt:139:28
 enum-told-4 : tie.Need-enum-told-4
 enum-told-4 c = search needs
 
--- src/payload.rt:132:1
 returns : tie.Need-returns
-returns c = ?
+unfolding counterFits
+returns c = rw (c .enum-told .given .1)
 
--- src/payload.rt:132:1
 returns-2 : tie.Need-returns-2
-returns-2 c = ?
+unfolding counterFits
+returns-2 c = rw (c .enum-told2 .given .1)
 
--- src/payload.rt:132:1
 returns-3 : tie.Need-returns-3
-returns-3 c = ?
+unfolding counterFits
+returns-3 c = rw (c .enum-told3 .given .1)
 
--- src/payload.rt:132:1
 returns-4 : tie.Need-returns-4
-returns-4 c = ?
+unfolding counterFits
+returns-4 c = rw (c .enum-told4 .given .1)
 
 pub counter-fits-spec : {M : Type 1} → statement M
 counter-fits-spec =

@@ -1,45 +1,46 @@
+-- Why signalling meets its contract: two bytes, their fields by shifts and masks.
+use mathlib.Core.Path.{sym}
+use native.Mathlib.Nat.{add-zero}
+use native.Mathlib.Omega.{arith}
 use borrow.Author.Needs.{needs}
+use lib.ListN.{getD}
+use lib.Seq.{getD-drop}
+use Rattle.wire.specs.Bits.{bits-shift}
+use Rattle.mmtp.specs.Payload.{signalling-short, signalling-by, flag-shift, flag-low}
 use Rattle.mmtp.proofs.payload.signalling.Statement.{statement}
 use Rattle.mmtp.proofs.payload.signalling.Tie as tie
-use Rattle.mmtp.proofs.payload.signalling.Reads as reads
-use Rattle.mmtp.proofs.payload.signalling.Lts as lts
-use Rattle.mmtp.proofs.payload.indicator_of.Reads as indicator-of-reads
 
--- src/payload.rt:103:9
 returns : tie.Need-returns
-returns c = ?
+returns c = sym (signalling-short _ _ (omega arith))
 
--- src/payload.rt:105:8
 sub-if2 : tie.Need-sub-if2
 sub-if2 c = search needs
 
--- src/payload.rt:106:9
 returns-2 : tie.Need-returns-2
-returns-2 c = ?
+returns-2 c = sym (signalling-short _ _ (omega arith))
 
--- src/payload.rt:108:17
 shared-slice-read-flags : tie.Need-shared-slice-read-flags
 shared-slice-read-flags c = search needs
 
--- src/payload.rt:111:20
 indicator-of-requires : tie.Need-indicator-of-requires
 indicator-of-requires c κs = search needs
 
--- src/payload.rt:112:20
 add-t4 : tie.Need-add-t4
 add-t4 c = search needs
 
--- src/payload.rt:112:18
 shared-slice-read-t12 : tie.Need-shared-slice-read-t12
 shared-slice-read-t12 c = search needs
 
--- src/payload.rt:116:16
 add-t6 : tie.Need-add-t6
 add-t6 c = search needs
 
--- src/payload.rt:99:1
 returns-3 : tie.Need-returns-3
-returns-3 c = ?
+returns-3 c =
+    let a = c .before .before .before .before .before .before .args in
+    let x = getD (a .m .now) (a .at) 0 in
+    let s = signalling-by (a .m .now) (a .at) (omega arith) in
+    rw (c .before .indicator-of .ensures, bits-shift x 6 2, flag-shift 1 x, flag-low x, s)
+    (simp (getD-drop, add-zero))
 
 pub signalling-spec : {M : Type 1} → statement M
 signalling-spec =

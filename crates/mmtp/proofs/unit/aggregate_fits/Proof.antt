@@ -1,50 +1,74 @@
+-- Why aggregate_fits meets its contract: what is left fits exactly if the whole does.
+use Prim.Native.Nat.{_≤_, _<_, _-_}
+use mathlib.Core.Path.{_≡_, sym, _∙_, refl}
+use mathlib.Core.Bool.{true}
+use native.Mathlib.Omega.{arith}
+use borrow.Author.Needs.{needs}
+use lib.ListN.{length, drop, length-drop}
+use Rattle.mmtp.specs.Unit.{unitFits, unitEnd, aggregate, span-to, span-cut, unit-fits-end}
+use Rattle.mmtp.specs.Unit.{fits-on, fits-not, fits-end, aggregate-fits-none, aggregate-fits-some}
 use Rattle.mmtp.proofs.unit.aggregate_fits.Statement.{statement}
 use Rattle.mmtp.proofs.unit.aggregate_fits.Tie as tie
-use Rattle.mmtp.proofs.unit.aggregate_fits.Reads as reads
-use Rattle.mmtp.proofs.unit.aggregate_fits.Lts as lts
-use Rattle.mmtp.proofs.unit.span_at.Reads as span-at-reads
 
 abbrev Inv-loop : tie.InvT-loop
-Inv-loop m start kind wide at₀ at = ?
+Inv-loop m start kind wide at₀ at =
+    (at ≤ length m) × (aggregate (drop at m) kind wide .fits ≡ aggregate (drop start m) kind wide .fits)
 
 abbrev μ-loop : tie.MeasureT-loop
-μ-loop m start kind wide at₀ at = ?
+μ-loop m start kind wide at₀ at = length m - at
 
--- src/unit.rt:143:9
+-- what the span of a turn tells
+spans : (c : tie.After-known-told Inv-loop μ-loop)
+    → let a = c .before .before .before .before .before .before .before .before .args in
+    let at = c .before .before .before .before .before .loop .at in
+    (unitFits (drop at (a .m .now)) (a .kind) (a .wide) ≡ true)
+    × (c .before .span .given .0 .0 ≡ unitEnd (a .m .now) at (a .wide))
+spans c = span-to _ _ _ _ _ (sym (c .before .before .before .span-at .ensures) ∙ c .before .span .given .1)
+
+-- it ends in the packet, past the place of the turn
+ends : (c : tie.After-known-told Inv-loop μ-loop)
+    → (c .before .span .given .0 .0 ≤ length (c .before .before .before .before .before .before .before .before .args .m .now))
+    × (c .before .before .before .before .before .loop .at < c .before .span .given .0 .0)
+ends c = rw (spans c .1) (unit-fits-end _ _ _ _ (spans c .0))
+
 returns : tie.Need-returns Inv-loop μ-loop
-returns c = ?
+returns c =
+    let a = c .before .before .args in
+    let l = length-drop (a .start) (a .m .now) in
+    sym (aggregate-fits-none _ _ _ (omega arith))
 
--- src/unit.rt:146:5
 loop-holds : tie.Need-loop-holds Inv-loop μ-loop
-loop-holds c = ?
+loop-holds c = (omega arith, refl)
 
--- src/unit.rt:147:13
 span-at-requires : tie.Need-span-at-requires Inv-loop μ-loop
-span-at-requires c κs = ?
+span-at-requires c κs = omega arith
 
--- src/unit.rt:149:22
 enum-known-span : tie.Need-enum-known-span Inv-loop μ-loop
-enum-known-span c = ?
+enum-known-span c = search needs
 
--- src/unit.rt:146:5
 loop-less : tie.Need-loop-less Inv-loop μ-loop
-loop-less c = ?
+loop-less c = omega (arith, ends c)
 
--- src/unit.rt:146:5
 loop-again : tie.Need-loop-again Inv-loop μ-loop
-loop-again c = ?
+loop-again c =
+    (ends c .0, rw (spans c .1) (fits-on _ _ _ _ (spans c .0) ∙ c .before .before .before .before .before .loop .inv .1))
 
--- src/unit.rt:153:17
 enum-told : tie.Need-enum-told Inv-loop μ-loop
-enum-told c = ?
+enum-told c = search needs
 
--- src/unit.rt:153:17
 returns-2 : tie.Need-returns-2 Inv-loop μ-loop
-returns-2 c = ?
+returns-2 c =
+    let a = c .before .before .before .before .before .before .before .args in
+    let l = length-drop (a .start) (a .m .now) in
+    let u = span-cut _ _ _ _ (sym (c .before .before .span-at .ensures) ∙ c .enum-told .given .1) in
+    let d = c .before .before .before in
+    sym (aggregate-fits-some _ _ _ (omega arith) ∙ sym (d .before .loop .inv .1) ∙ fits-not _ _ _ _ (d .loop-test .taken) u)
 
--- src/unit.rt:139:1
 returns-3 : tie.Need-returns-3 Inv-loop μ-loop
-returns-3 c = ?
+returns-3 c =
+    let a = c .before .before .before .before .args in
+    let l = length-drop (a .start) (a .m .now) in
+    sym (aggregate-fits-some _ _ _ (omega arith) ∙ sym (c .before .loop .inv .1) ∙ fits-end _ _ _ _ (c .loop-test .left))
 
 pub aggregate-fits-spec : {M : Type 1} → statement M
 aggregate-fits-spec =

@@ -1,34 +1,32 @@
+-- Why length_at meets its contract: by the flag, a field of 32 or of 16 bits.
+use native.Mathlib.Nat.{add-zero}
 use borrow.Author.Needs.{needs}
+use Rattle.wire.specs.Field.{be-drop}
+use Rattle.mmtp.specs.Unit.{lengthBytes}
 use Rattle.mmtp.proofs.unit.length_at.Statement.{statement}
 use Rattle.mmtp.proofs.unit.length_at.Tie as tie
-use Rattle.mmtp.proofs.unit.length_at.Reads as reads
-use Rattle.mmtp.proofs.unit.length_at.Lts as lts
-use Rattle.wire.proofs.field.read16.Reads as read16-reads
-use Rattle.wire.proofs.field.read32.Reads as read32-reads
 
--- src/unit.rt:95:9
 read32-requires : tie.Need-read32-requires
-read32-requires c κs = ?
+unfolding lengthBytes
+read32-requires c κs = rw (c .if1 .taken) at (c .before .before .pre)
 
--- src/unit.rt:95:9
 cast-result : tie.Need-cast-result
 cast-result c = search needs
 
--- src/unit.rt:97:9
 read16-requires : tie.Need-read16-requires
-read16-requires c κs = ?
+unfolding lengthBytes
+read16-requires c κs = rw (c .if1 .left) at (c .before .before .pre)
 
--- src/unit.rt:97:9
 cast-result-2 : tie.Need-cast-result-2
 cast-result-2 c = search needs
 
--- src/unit.rt:90:1
 returns : tie.Need-returns
-returns c = ?
+unfolding lengthBytes
+returns c = (rw (c .before .if1 .taken, be-drop, add-zero) (c .read32 .ensures), search needs)
 
--- src/unit.rt:90:1
 returns-2 : tie.Need-returns-2
-returns-2 c = ?
+unfolding lengthBytes
+returns-2 c = (rw (c .before .if1 .left, be-drop, add-zero) (c .read16 .ensures), search needs)
 
 pub length-at-spec : {M : Type 1} → statement M
 length-at-spec =

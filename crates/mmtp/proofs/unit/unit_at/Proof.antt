@@ -1,56 +1,75 @@
+-- Why unit_at meets its contract: past the end, cut, or where its span says.
+use Prim.Native.Nat.{_+_, _≤_}
+use mathlib.Core.Path.{_≡_, sym, _∙_}
+use mathlib.Core.Bool.{true}
+use native.Mathlib.Omega.{arith}
+use borrow.Author.Tests.{le-leb, lt-leb}
 use borrow.Author.Needs.{needs}
+use lib.ListN.{length, drop, length-drop}
+use Rattle.mmtp.specs.Unit.{fieldBytes, lengthBytes, unitFits, unitAt, unitEnd, dataUnit, span-to, span-cut, unit-fits}
 use Rattle.mmtp.proofs.unit.unit_at.Statement.{statement}
 use Rattle.mmtp.proofs.unit.unit_at.Tie as tie
-use Rattle.mmtp.proofs.unit.unit_at.Reads as reads
-use Rattle.mmtp.proofs.unit.unit_at.Lts as lts
-use Rattle.mmtp.proofs.unit.field_bytes.Reads as field-bytes-reads
-use Rattle.mmtp.proofs.unit.fields_at.Reads as fields-at-reads
-use Rattle.mmtp.proofs.unit.length_bytes.Reads as length-bytes-reads
-use Rattle.mmtp.proofs.unit.span_at.Reads as span-at-reads
 
--- src/unit.rt:126:9
+-- what the span tells
+spans : (c : tie.After-known-told) → let a = c .before .before .before .before .before .before .args in
+    (unitFits (drop (a .at) (a .m .now)) (a .kind) (a .wide) ≡ true)
+    × (c .before .span .given .0 .0 ≡ unitEnd (a .m .now) (a .at) (a .wide))
+spans c = span-to _ _ _ _ _ (sym (c .before .before .before .span-at .ensures) ∙ c .before .span .given .1)
+
+room : (c : tie.After-known-told) → let a = c .before .before .before .before .before .before .args in
+    a .at + lengthBytes (a .wide) + fieldBytes (a .kind) ≤ length (a .m .now)
+room c =
+    let a = c .before .before .before .before .before .before .args in
+    let f = unit-fits _ _ _ (spans c .0) in
+    omega (arith, length-drop (a .at) (a .m .now))
+
 returns : tie.Need-returns
-returns c = ?
+unfolding unitAt
+returns c = rw (le-leb _ _ (c .if1 .taken))
 
--- src/unit.rt:128:9
 span-at-requires : tie.Need-span-at-requires
 span-at-requires c κs = search needs
 
--- src/unit.rt:129:18
 enum-known-span : tie.Need-enum-known-span
 enum-known-span c = search needs
 
--- src/unit.rt:130:9
 enum-told : tie.Need-enum-told
 enum-told c = search needs
 
--- src/unit.rt:130:9
 returns-2 : tie.Need-returns-2
-returns-2 c = ?
+unfolding unitAt
+returns-2 c =
+    let u = span-cut _ _ _ _ (sym (c .before .before .span-at .ensures) ∙ c .enum-told .given .1) in
+    rw (lt-leb _ _ (c .before .before .before .if1 .left), u)
 
--- src/unit.rt:132:21
 length-bytes-requires : tie.Need-length-bytes-requires
 length-bytes-requires c κs = search needs
 
--- src/unit.rt:132:16
 add-from : tie.Need-add-from
-add-from c = ?
+add-from c = omega (arith, room (c .before))
 
--- src/unit.rt:133:9
 fields-at-requires : tie.Need-fields-at-requires
-fields-at-requires c κs = ?
+fields-at-requires c κs = rw (c .length-bytes .ensures) (room (c .before))
 
--- src/unit.rt:134:24
 field-bytes-requires : tie.Need-field-bytes-requires
 field-bytes-requires c κs = search needs
 
--- src/unit.rt:134:17
 add-start : tie.Need-add-start
-add-start c = ?
+add-start c = omega (arith, room (c .before .before .before))
 
--- src/unit.rt:122:1
 returns-3 : tie.Need-returns-3
-returns-3 c = ?
+unfolding unitAt dataUnit
+returns-3 c =
+    let d = c .before .before .before in
+    let e = spans d in
+    rw (
+      lt-leb _ _ (d .before .before .before .before .if1 .left),
+      e .0,
+      e .1,
+      c .before .fields-at .ensures,
+      c .before .before .length-bytes .ensures,
+      c .field-bytes .ensures,
+    )
 
 pub unit-at-spec : {M : Type 1} → statement M
 unit-at-spec =

@@ -1,0 +1,65 @@
+-- The starred payloads of document 01, and small ones of our own, computed.
+use Prim.Native.Nat.{ℕ}
+use mathlib.Core.Path.{_≡_, refl}
+use mathlib.Core.Bool.{Bool, true, false}
+use mathlib.Core.List.{List, [], _∷_}
+use lib.ListN.{replicate}
+use Rattle.wire.specs.Field.{be}
+use Rattle.mmtp.specs.declared.payload.Indicator.the-variants.{Whole, First}
+use Rattle.mmtp.specs.declared.payload.Payload.{Payload}
+use Rattle.mmtp.specs.declared.payload.PayloadRead.the-variants.{Good}
+use Rattle.mmtp.specs.Unit.{Piece, noFields, fieldBytes, fieldsOf, pieceOf, lengthBytes, unitFits, singleFits}
+use Rattle.mmtp.specs.Unit.{unitThen, aggregateBy, aggregate, aggregateFits}
+use Rattle.mmtp.specs.Payload.{indicatorOf, fragmentTypeOf, mpuOf, signallingOf, parsedOf, counterFits}
+use Rattle.mmtp.specs.Payload.{aggregationFits, unitsFit, tested, payloadOf, piecesOf, noteOf}
+
+-- an MPU payload: 16-bit length, its third byte, counter, MPU sequence number 9, and what follows
+abbrev mpuBytes : ℕ → ℕ → ℕ → List ℕ → List ℕ
+mpuBytes n third counter rest = 0 ∷ n ∷ third ∷ counter ∷ 0 ∷ 0 ∷ 0 ∷ 9 ∷ rest
+
+abbrev pub PayloadSpecimens : Type 0
+PayloadSpecimens =
+    -- "MPU byte 0x2A is kind 2, FI 01", here with counter 1 and 14 bytes of fields
+    (payloadOf (mpuBytes 20 0x2A 1 (replicate 14 0)) 0 0
+    ≡ Good (record { kind = 2; indicator = First; counter = 1; mpu = 9; aggregated = false; wide = false; start = 8 }))
+    -- "0x2B: 52", though its one unit is whole
+    × (noteOf (payloadOf (mpuBytes 22 0x2B 1 (0 ∷ 14 ∷ replicate 14 0)) 0 0) ≡ 52)
+
+pub payload-specimens : PayloadSpecimens
+unfolding payloadOf tested parsedOf mpuOf be fragmentTypeOf counterFits indicatorOf aggregationFits unitsFit singleFits fieldBytes
+payload-specimens = (refl, refl)
+
+-- a signalling payload with FI 00, counter 0 and this H, without A
+abbrev signalled : Bool → Payload
+signalled h = record { kind = 4; indicator = Whole; counter = 0; mpu = 0; aggregated = false; wide = h; start = 2 }
+
+abbrev message : List ℕ → Piece
+message b = record { fields = noFields; bytes = b }
+
+abbrev pub Examples : Type 0
+Examples =
+    -- an empty signalling unit is read
+    (payloadOf (0 ∷ 0 ∷ []) 0 2 ≡ Good (signalled false))
+    × (piecesOf (0 ∷ 0 ∷ []) (signalled false) ≡ message [] ∷ [])
+    -- H without A is read, and the unit has no length before it
+    × (payloadOf (2 ∷ 0 ∷ 7 ∷ []) 0 2 ≡ Good (signalled true))
+    × (piecesOf (2 ∷ 0 ∷ 7 ∷ []) (signalled true) ≡ message (7 ∷ []) ∷ [])
+    -- two aggregated signalling units, the second empty
+    × (aggregate (0 ∷ 1 ∷ 7 ∷ 0 ∷ 0 ∷ []) 4 false ≡ record { pieces = message (7 ∷ []) ∷ message [] ∷ []; fits = true })
+    -- the second runs over the end
+    × (noteOf (payloadOf (1 ∷ 0 ∷ 0 ∷ 1 ∷ 7 ∷ 0 ∷ 2 ∷ 8 ∷ []) 0 2) ≡ 52)
+    -- A without a unit
+    × (noteOf (payloadOf (1 ∷ 0 ∷ []) 0 2) ≡ 52)
+    -- an aggregated unit of kind 2 that is shorter than its fields
+    × (noteOf (payloadOf (mpuBytes 21 0x29 0 (0 ∷ 13 ∷ replicate 13 0)) 0 0) ≡ 52)
+    -- a length that differs from what follows
+    × (noteOf (payloadOf (mpuBytes 21 0x2A 1 (replicate 14 0)) 0 0) ≡ 52)
+    -- FI 01 and FI 10 with counter 0, FI 11 with counter 1
+    × (noteOf (payloadOf (0x40 ∷ 0 ∷ []) 0 2) ≡ 52)
+    × (noteOf (payloadOf (0x80 ∷ 0 ∷ []) 0 2) ≡ 52)
+    × (noteOf (payloadOf (0xC0 ∷ 1 ∷ []) 0 2) ≡ 52)
+
+pub examples : Examples
+unfolding payloadOf piecesOf tested parsedOf mpuOf signallingOf be fragmentTypeOf counterFits indicatorOf aggregationFits unitsFit
+    singleFits fieldBytes fieldsOf pieceOf lengthBytes unitFits unitThen aggregateBy aggregate aggregateFits
+examples = (refl, refl, refl, refl, refl, refl, refl, refl, refl, refl, refl, refl)
