@@ -1,0 +1,74 @@
+-- Why `extend` meets its contract: one law of `extended` for each return.
+use borrow.Author.Tests.{not-true, not-false}
+use mathlib.Core.Path.{sym, _∙_}
+use native.Mathlib.Omega.{arith}
+use Rattle.reassembly.specs.Join.{extended-apart, extended-uncounted, extended-over, extended-on}
+use borrow.Author.Needs.{needs}
+use Rattle.reassembly.proofs.join.extend.Statement.{statement}
+use Rattle.reassembly.proofs.join.extend.Tie as tie
+
+agree-requires : tie.Need-agree-requires
+agree-requires c κs = search needs
+
+keep-requires : tie.Need-keep-requires
+keep-requires c κs = search needs
+
+returns : tie.Need-returns
+returns c = c .keep .ensures ∙ sym (extended-apart _ _ _ _ (sym (c .before .before .agree .ensures) ∙ not-true _ (c .before .if1 .taken)))
+
+counter-follows-requires : tie.Need-counter-follows-requires
+counter-follows-requires c κs = search needs
+
+keep-requires-2 : tie.Need-keep-requires-2
+keep-requires-2 c κs = search needs
+
+returns-2 : tie.Need-returns-2
+returns-2 c =
+    let d = c .before .before in
+    c .keep2 .ensures
+    ∙ sym (extended-uncounted _ _ _ _ (sym (d .before .before .agree .ensures) ∙ not-false _ (d .before .if1 .left))
+    (sym (d .counter-follows .ensures) ∙ not-true _ (c .before .if2 .taken)))
+
+keep-requires-3 : tie.Need-keep-requires-3
+keep-requires-3 c κs = search needs
+
+returns-3 : tie.Need-returns-3
+returns-3 c =
+    let e = c .before .before .before in
+    let d = e .before in
+    c .keep3 .ensures ∙ sym (extended-over _ _ _ _ (sym (d .before .before .agree .ensures) ∙ not-false _ (d .before .if1 .left)) (sym (d .counter-follows .ensures) ∙ not-false _ (e .if2 .left)) (omega arith))
+
+keep-requires-4 : tie.Need-keep-requires-4
+keep-requires-4 c κs = search needs
+
+returns-4 : tie.Need-returns-4
+returns-4 c =
+    let e = c .before .before .before .before .before in
+    let d = e .before in
+    c .keep4 .ensures ∙ sym (extended-over _ _ _ _ (sym (d .before .before .agree .ensures) ∙ not-false _ (d .before .if1 .left)) (sym (d .counter-follows .ensures) ∙ not-false _ (e .if2 .left)) (omega arith))
+
+grow-requires : tie.Need-grow-requires
+grow-requires c κs = search needs
+
+returns-5 : tie.Need-returns-5
+returns-5 c =
+    let e = c .before .before .before .before .before in
+    let d = e .before in
+    c .grow .ensures ∙ sym (extended-on _ _ _ _ (sym (d .before .before .agree .ensures) ∙ not-false _ (d .before .if1 .left)) (sym (d .counter-follows .ensures) ∙ not-false _ (e .if2 .left)) (omega arith))
+
+pub extend-spec : {M : Type 1} → statement M
+extend-spec =
+    tie.close
+    (tie.spec
+    agree-requires
+    keep-requires
+    returns
+    counter-follows-requires
+    keep-requires-2
+    returns-2
+    keep-requires-3
+    returns-3
+    keep-requires-4
+    returns-4
+    grow-requires
+    returns-5)

@@ -1,0 +1,223 @@
+// One step of reassembly: a packet's piece comes to the state of its packet_id.
+ghost use mathlib.Core.Path.{_≡_};
+ghost use Prim.Native.Nat.{_+_, _<_};
+ghost use Rattle.reassembly.specs.Join.{interrupted, kept, given, begun, counterFollows, grown, extended, followed, acted, joinOf};
+use crate::channel::Channel;
+use crate::channel::OpenUnit;
+use crate::channel::Phase;
+use crate::channel::is_gap;
+use crate::unit::Unit;
+use mmtp::payload::Indicator;
+
+// The first piece of a packet: what a unit that it begins carries, how it stands in its unit, and its length.
+pub struct Piece {
+    pub unit: Unit,
+    pub indicator: Indicator,
+    pub counter: u8,
+    pub len: usize,
+}
+
+// What is to be done with a packet's bytes.
+pub enum Action {
+    Nothing,
+    // Its data units are units.
+    Whole,
+    // Its piece is collected from this place on.
+    Store(usize),
+    // The same, and the open unit is complete.
+    Complete(usize),
+}
+
+pub struct Joined {
+    pub channel: Channel,
+    // 60, 61, 62 or 63; 0 for none.
+    pub note: u8,
+    // Note 64 comes, after the other.
+    pub over: bool,
+    pub action: Action,
+}
+
+// Note 61 where an open unit is dropped.
+fn interruption(phase: Phase) -> u8
+    ensures { λ r. ⌜ r ≡ interrupted phase ⌝ }
+{
+    match phase {
+        Phase::Unheard => 0,
+        Phase::Waiting => 0,
+        Phase::Idle => 0,
+        Phase::Open => 61,
+    }
+}
+
+// The channel in another phase, with a note and nothing to be done.
+fn keep(ch: Channel, phase: Phase, note: u8, over: bool) -> Joined
+    ensures { λ r. ⌜ r ≡ kept ch phase note over ⌝ }
+{
+    let channel = Channel { phase, ..ch };
+    Joined {
+        channel,
+        note,
+        over,
+        action: Action::Nothing,
+    }
+}
+
+// FI 00: the packet's data units are given.
+fn give(ch: Channel, note: u8) -> Joined
+    ensures { λ r. ⌜ r ≡ given ch note ⌝ }
+{
+    let channel = Channel {
+        phase: Phase::Idle,
+        ..ch
+    };
+    Joined {
+        channel,
+        note,
+        over: false,
+        action: Action::Whole,
+    }
+}
+
+// FI 01: a unit is opened.
+fn begin(ch: Channel, p: Piece, limit: usize, note: u8) -> Joined
+    ensures { λ r. ⌜ r ≡ begun ch p limit note ⌝ }
+{
+    if limit < p.len {
+        return keep(ch, Phase::Waiting, note, true);
+    }
+    let unit = p.unit;
+    let current = OpenUnit {
+        unit,
+        counter: p.counter,
+        len: p.len,
+    };
+    let last = ch.last;
+    let channel = Channel {
+        phase: Phase::Open,
+        last,
+        current,
+    };
+    Joined {
+        channel,
+        note,
+        over: false,
+        action: Action::Store(0),
+    }
+}
+
+// Whether a piece's counter is one lower than the one before.
+fn counter_follows(before: u8, counter: u8) -> bool
+    ensures { λ r. ⌜ r ≡ counterFollows before counter ⌝ }
+{
+    if before == 0 {
+        return false;
+    }
+    before - 1 == counter
+}
+
+// The open unit with this piece behind it.
+fn grow(ch: Channel, p: Piece, last: bool) -> Joined
+    requires { ⌜ ch .current .len + p .len < 18446744073709551616 ⌝ }
+    ensures { λ r. ⌜ r ≡ grown ch p last ⌝ }
+{
+    let before = ch.current;
+    let at = before.len;
+    let current = OpenUnit {
+        counter: p.counter,
+        len: at + p.len,
+        ..before
+    };
+    let psn = ch.last;
+    if last {
+        let channel = Channel {
+            phase: Phase::Idle,
+            last: psn,
+            current,
+        };
+        return Joined {
+            channel,
+            note: 0,
+            over: false,
+            action: Action::Complete(at),
+        };
+    }
+    let channel = Channel {
+        phase: Phase::Open,
+        last: psn,
+        current,
+    };
+    Joined {
+        channel,
+        note: 0,
+        over: false,
+        action: Action::Store(at),
+    }
+}
+
+// FI 10, or with `last` FI 11, while a unit is open.
+fn extend(ch: Channel, p: Piece, limit: usize, last: bool) -> Joined
+    ensures { λ r. ⌜ r ≡ extended ch p limit last ⌝ }
+{
+    let current = ch.current;
+    let unit = current.unit;
+    let piece = p.unit;
+    if !crate::unit::agree(unit, piece) {
+        return keep(ch, Phase::Waiting, 63, false);
+    }
+    if !counter_follows(current.counter, p.counter) {
+        return keep(ch, Phase::Waiting, 63, false);
+    }
+    let at = current.len;
+    if limit < p.len {
+        return keep(ch, Phase::Waiting, 0, true);
+    }
+    if limit - p.len < at {
+        return keep(ch, Phase::Waiting, 0, true);
+    }
+    grow(ch, p, last)
+}
+
+// FI 10, or with `last` FI 11.
+fn follow(ch: Channel, p: Piece, limit: usize, last: bool) -> Joined
+    ensures { λ r. ⌜ r ≡ followed ch p limit last ⌝ }
+{
+    let phase = ch.phase;
+    match phase {
+        Phase::Unheard => keep(ch, Phase::Waiting, 0, false),
+        Phase::Waiting => keep(ch, Phase::Waiting, 0, false),
+        Phase::Idle => keep(ch, Phase::Waiting, 62, false),
+        Phase::Open => extend(ch, p, limit, last),
+    }
+}
+
+// (c): by the indicator and the phase.
+fn act(ch: Channel, p: Piece, limit: usize) -> Joined
+    ensures { λ r. ⌜ r ≡ acted ch p limit ⌝ }
+{
+    let phase = ch.phase;
+    let indicator = p.indicator;
+    match indicator {
+        Indicator::Whole => give(ch, interruption(phase)),
+        Indicator::First => begin(ch, p, limit, interruption(phase)),
+        Indicator::Middle => follow(ch, p, limit, false),
+        Indicator::Last => follow(ch, p, limit, true),
+    }
+}
+
+// (a) a gap makes it waiting, (b) the psn is recorded, (c) the piece is read.
+pub fn join(ch: Channel, p: Piece, limit: usize) -> Joined
+    ensures { λ r. ⌜ r ≡ joinOf ch p limit ⌝ }
+{
+    let unit = p.unit;
+    let psn = unit.psn;
+    let heard = Channel { last: psn, ..ch };
+    if is_gap(ch, psn) {
+        let waiting = Channel {
+            phase: Phase::Waiting,
+            ..heard
+        };
+        let j = act(waiting, p, limit);
+        return Joined { note: 60, ..j };
+    }
+    act(heard, p, limit)
+}
