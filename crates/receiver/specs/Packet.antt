@@ -1,5 +1,5 @@
 -- A TLV packet in packet memory: read, and joined to the state of its packet_id over collecting memory.
-use Prim.Native.Nat.{ℕ, _+_, _-_, _*_}
+use Prim.Native.Nat.{ℕ, _+_, _-_, _*_, _≤_, _<_}
 use mathlib.Core.Bool.{Bool, true, false, cond}
 use mathlib.Core.List.{List}
 use lib.ListN.{length, drop}
@@ -54,6 +54,9 @@ arrivedAt c p start end = let b = partOf p start (end - start) in flowBy (flowOf
 abbrev pub bytesAt : Located → List ℕ → List ℕ
 bytesAt l p = partOf p (l .start) (l .end - l .start)
 
+abbrev pub Unit₀ : Type 0
+Unit₀ = Prim.Unit {0}
+
 abbrev pub blankUnit : DataUnit
 blankUnit = record { fields = noFields; start = 0; end = 0 }
 
@@ -81,6 +84,20 @@ collected NoAction c base m u = c
 collected Whole c base m u = c
 collected (Store at) c base m u = pasted c (base + at) (drop (u .start) m) (unitLen u)
 collected (Complete at) c base m u = pasted c (base + at) (drop (u .start) m) (unitLen u)
+
+-- the piece lies in the packet, and fits where it is collected
+abbrev pub Room : Action → ℕ → ℕ → ℕ → DataUnit → Type 0
+Room NoAction c base m u = Unit₀
+Room Whole c base m u = Unit₀
+Room (Store at) c base m u = (u .start ≤ u .end) × (u .end ≤ m) × (base + at + unitLen u ≤ c)
+Room (Complete at) c base m u = (u .start ≤ u .end) × (u .end ≤ m) × (base + at + unitLen u ≤ c)
+
+-- a joined unit's length is a number
+abbrev pub Reach : Action → DataUnit → Type 0
+Reach NoAction u = Unit₀
+Reach Whole u = Unit₀
+Reach (Store at) u = Unit₀
+Reach (Complete at) u = at + unitLen u < 18446744073709551616
 
 -- a whole unit stands in packet memory
 abbrev pub wholeGiven : Located → DataUnit → Given

@@ -1,6 +1,6 @@
 -- Slot, with its data or lost: refusals 20 to 23, packet memory, and what next then has to read.
 use Prim.Native.Nat.{ℕ, _+_, _*_}
-use mathlib.Core.Bool.{Bool, true, false, cond, _||_}
+use mathlib.Core.Bool.{Bool, true, false, cond, _||_, not}
 use mathlib.Core.List.{List}
 use lib.ListN.{length, getD, drop}
 use lib.Dec.{eqb, ltb, leb}
@@ -106,8 +106,8 @@ abbrev pub dueOwn : State → Bool
 dueOwn st = getD (st .frame .layout .own) (st .frame .at) false
 
 -- "23 wrong length"; no live slot is longer than 5,049 bytes
-abbrev pub wrongLength : State → List ℕ → Bool
-wrongLength st d = ltb 5049 (length d) || (cond (eqb (length d) (dueLength st)) false true)
+unfoldable pub wrongLength : ℕ → ℕ → Bool
+wrongLength due l = ltb 5049 l || not (eqb l due)
 
 abbrev pub Out : Type 0
 Out = Called × List ℕ
@@ -120,7 +120,7 @@ slotTaken true st p d t = (accepted (ownState (counted st) p d t), ownMem (count
 unfoldable pub slotOf : State → List ℕ → List ℕ → List ℕ → Out
 slotOf st p c d =
     let r = refusalOf st (length p) (length c) in
-    cond (eqb r 0) (cond (wrongLength st d) (refused 23 st, p) (slotTaken (dueOwn st) st p d (duePointers st))) (refused r st, p)
+    cond (eqb r 0) (cond (wrongLength (dueLength st) (length d)) (refused 23 st, p) (slotTaken (dueOwn st) st p d (duePointers st))) (refused r st, p)
 
 abbrev pub lossTaken : Bool → State → State
 lossTaken false st = counted st

@@ -1,6 +1,6 @@
 // Frame and lost frame.
 ghost use mathlib.Core.Path.{_≡_};
-ghost use Rattle.receiver.specs.Frame.{frameBusy, lossHeld, lossCursor, frameOf, lostFrameOf};
+ghost use Rattle.receiver.specs.Frame.{frameBusy, lossOf, frameOf, lostFrameOf};
 use crate::answer::Called;
 use crate::state::{Cursor, Frame, Held, State};
 

@@ -1,13 +1,15 @@
 // Slot, with its data or lost.
 ghost use mathlib.Core.Path.{_≡_};
-ghost use Prim.Native.Nat.{_+_, _≤_};
+ghost use Prim.Native.Nat.{_+_, _≤_, _<_};
 ghost use lib.ListN.{length};
-ghost use Rattle.receiver.specs.Frame.{lossOf};
-ghost use Rattle.receiver.specs.Slot.{shortBy, refusalOf, counted, cursorFrom, readingFrom, copied, continuedMem, heldLen, resumedState, resumedMem, ownState, ownMem, slotOf, lostSlotOf};
+ghost use Rattle.tlv.specs.Held.{continuationOf};
+ghost use Rattle.receiver.specs.State.{searching, holding, noted, withSlot};
+ghost use Rattle.receiver.specs.Slot.{shortBy, refusalOf, counted, cursorFrom, readingFrom, continuedMem, heldBytes, heldLen, resumedState, resumedMem, ownState, ownMem, wrongLength, slotOf, lostSlotOf};
 use crate::answer::Called;
 use crate::state::{Cursor, Frame, Held, State};
 use reassembly::config::Config;
 use tlv::held::Continuation;
+use tmcc::layout::Pointers;
 
 // Where the slot stands in packet memory, behind the longest held packet.
 pub const SLOT_AREA: usize = 16384;
@@ -101,6 +103,35 @@ fn read_from(st: State, note: u8, packet: usize, top: u16, len: usize) -> State
     State { held, cursor, ..st }
 }
 
+// Whether a slot's data has another length than its mode's, or than any slot's.
+fn is_wrong(length: u16, len: usize) -> bool
+    ensures { λ r. ⌜ r ≡ wrongLength length len ⌝ }
+{
+    if MAX_SLOT < len {
+        return true;
+    }
+    len != length as usize
+}
+
+// An unsound slot: note 41, and searching.
+fn mark_unsound(st: State) -> State
+    ensures { λ r. ⌜ r ≡ withSlot st searching (noted 41) ⌝ }
+{
+    let held = Held {
+        on: false,
+        start: 0,
+        len: 0,
+    };
+    let cursor = Cursor {
+        note: 41,
+        packet: 0,
+        reading: false,
+        at: 0,
+        end: 0,
+    };
+    State { held, cursor, ..st }
+}
+
 // How many bytes are held; none where they lie outside packet memory.
 fn held_len(held: Held, packet: &[u8]) -> usize
     ensures { λ r. ⌜ r ≡ heldLen held (now (packet .entry)) ⌝ }
@@ -130,23 +161,130 @@ fn resume(held: Held, packet: &[u8], data: &[u8], t: Pointers) -> Continuation
     tlv::held::resume(bytes, data, t.0, t.1)
 }
 
-// The state after a sound slot has come to `n` held bytes.
-fn resumed(c: Continuation, st: State, n: usize, top: u16, len: usize) -> State
-    requires { ⌜ (n + len < 4294967296) × (len ≤ 5049) ⌝ }
-    ensures { λ r. ⌜ r ≡ resumedState c st n top len ⌝ }
+// The held packet ends in the slot; the packets from the top pointer follow it.
+fn end_packet(st: State, n: usize, end: usize, top: u16, len: usize) -> State
+    requires { ⌜ (n + end < 18446744073709551616) × (len ≤ 5049) ⌝ }
+    ensures { λ r. ⌜ r ≡ resumedState (Continuation.Ends end) st n top len ⌝ }
 {
+    let packet = if n == 0 { 0 } else { n + end };
+    let held = Held {
+        on: top == tlv::slot::NONE,
+        start: 0,
+        len: 0,
+    };
+    let cursor = cursor_from(0, packet, top, len);
+    State { held, cursor, ..st }
+}
+
+// The held packet goes on past the slot.
+fn extend_packet(st: State, n: usize, len: usize) -> State
+    requires { ⌜ n + len < 18446744073709551616 ⌝ }
+    ensures { λ r. ⌜ r ≡ withSlot st (holding 0 (n + len)) (noted 0) ⌝ }
+{
+    let held = Held {
+        on: true,
+        start: 0,
+        len: n + len,
+    };
+    let cursor = Cursor {
+        note: 0,
+        packet: 0,
+        reading: false,
+        at: 0,
+        end: 0,
+    };
+    State { held, cursor, ..st }
+}
+
+// A sound slot comes to held bytes: the state, and in packet memory the held packet.
+fn resume_slot(st: State, packet: &mut [u8], data: &[u8], t: Pointers) -> State
+    requires { ⌜ (21433 ≤ length (now packet)) × (length (now data) ≤ 5049) ⌝ }
+    ensures { λ r. ⌜ (r, now (packet .exit)) ≡ (resumedState (continuationOf (heldBytes (st .held) (now (packet .entry))) (now (data .entry)) (t .0) (t .1)) st (heldLen (st .held) (now (packet .entry))) (t .0) (length (now (data .entry))), resumedMem (continuationOf (heldBytes (st .held) (now (packet .entry))) (now (data .entry)) (t .0) (t .1)) (st .held) (now (packet .entry)) (now (data .entry))) ⌝ }
+{
+    let held = st.held;
+    let len = data.len();
+    let n = held_len(held, packet);
+    let c = resume(held, packet, data, t);
     match c {
-        Continuation::TooLong => read_from(st, 43, 0, top, len),
-        Continuation::Misfit => read_from(st, 42, 0, top, len),
-        Continuation::Ends(end) => complete(st, n, end, top, len),
+        Continuation::TooLong => read_from(st, 43, 0, t.0, len),
+        Continuation::Misfit => read_from(st, 42, 0, t.0, len),
+        Continuation::Ends(end) => {
+            continue_packet(held, packet, data, end);
+            end_packet(st, n, end, t.0, len)
+        }
         Continuation::GoesOn => {
-            let held = Held {
-                on: true,
-                start: 0,
-                len: n + len,
-            };
-            let cursor = cursor_from(0, 0, tlv::slot::NONE, len);
-            State { held, cursor, ..st }
+            continue_packet(held, packet, data, len);
+            extend_packet(st, n, len)
         }
     }
+}
+
+// An own live slot: its state, and packet memory.
+fn take_own(st: State, packet: &mut [u8], data: &[u8], t: Pointers) -> State
+    requires { ⌜ (21433 ≤ length (now packet)) × (length (now data) ≤ 5049) ⌝ }
+    ensures { λ r. ⌜ (r, now (packet .exit)) ≡ (ownState st (now (packet .entry)) (now (data .entry)) t, ownMem st (now (packet .entry)) (now (data .entry)) t) ⌝ }
+{
+    let held = st.held;
+    if !tlv::slot::is_sound(data, t.0, t.1) {
+        wire::memory::copy_at(packet, SLOT_AREA, data);
+        return mark_unsound(st);
+    }
+    if held.on {
+        let next = resume_slot(st, packet, data, t);
+        wire::memory::copy_at(packet, SLOT_AREA, data);
+        return next;
+    }
+    wire::memory::copy_at(packet, SLOT_AREA, data);
+    read_from(st, 0, 0, t.0, data.len())
+}
+
+// The slot that is due, with its data.
+pub fn slot(st: State, packet: &mut [u8], collecting: &[u8], data: &[u8]) -> Called
+    ensures { λ r. ⌜ (r, now (packet .exit)) ≡ slotOf st (now (packet .entry)) (now (collecting .entry)) (now (data .entry)) ⌝ }
+{
+    let refusal = refusal(st, packet.len(), collecting.len());
+    if refusal != 0 {
+        return Called { refusal, state: st };
+    }
+    let frame = st.frame;
+    let at = frame.at;
+    let layout = frame.layout;
+    if is_wrong(layout.lengths[at], data.len()) {
+        return Called {
+            refusal: 23,
+            state: st,
+        };
+    }
+    let next = count(st);
+    if !layout.own[at] {
+        return Called {
+            refusal: 0,
+            state: next,
+        };
+    }
+    let pointers = layout.pointers[at];
+    let state = take_own(next, packet, data, pointers);
+    Called { refusal: 0, state }
+}
+
+// The slot that is due, lost.
+pub fn lost_slot(st: State, packet: &[u8], collecting: &[u8]) -> Called
+    ensures { λ r. ⌜ r ≡ lostSlotOf st (length (now (packet .entry))) (length (now (collecting .entry))) ⌝ }
+{
+    let refusal = refusal(st, packet.len(), collecting.len());
+    if refusal != 0 {
+        return Called { refusal, state: st };
+    }
+    let frame = st.frame;
+    let at = frame.at;
+    let layout = frame.layout;
+    let next = count(st);
+    if !layout.own[at] {
+        return Called {
+            refusal: 0,
+            state: next,
+        };
+    }
+    let state = crate::frame::after_loss(next);
+    Called { refusal: 0, state }
 }

@@ -3,11 +3,9 @@ use Prim.Native.Nat.{ℕ, zero, suc, _+_, _-_, _*_, _%_, _^_, _<_, _≤_}
 use mathlib.Core.Path.{_≡_, refl}
 use mathlib.Core.Bool.{Bool, true, false, cond, _&&_}
 use mathlib.Core.List.{List, [], _∷_}
-use native.Mathlib.Nat.{div-one}
 use native.Mathlib.Numerals.{add-one}
 use native.Mathlib.Omega.{arith}
 use lib.ListN.{getD}
-use lib.Bits.{bitAnd, and-mask}
 use lib.Dec.{eqb, leb, ltb}
 use borrow.Author.Tests.{lt-ltb, le-ltb}
 use Rattle.wire.specs.Bits.{bitsAt}
@@ -28,10 +26,6 @@ modulation mode = bitsAt 4 4 mode
 
 abbrev pub codeRate : ℕ → ℕ
 codeRate mode = bitsAt 0 4 mode
-
--- a mask alone takes the lowest field out
-pub bits-mask : (n w : ℕ) → bitAnd n (2 ^ w - 1) ≡ bitsAt 0 w n
-bits-mask n w = rw (div-one n) (and-mask n w)
 
 -- data bytes by code rate 1 to 11
 abbrev pub slotBytes : List ℕ

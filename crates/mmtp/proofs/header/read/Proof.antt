@@ -1,11 +1,9 @@
 -- Why read meets its contract: the start that start_of found, version and FEC, then the fields.
-use Prim.Native.Nat.{ℕ, _≤_, _^_, _-_}
+use Prim.Native.Nat.{_≤_}
 use mathlib.Core.Path.{_≡_, sym, _∙_}
 use native.Mathlib.Omega.{arith}
 use lib.ListN.{length}
-use native.Mathlib.Nat.{div-one}
-use lib.Bits.{bitAnd, and-mask}
-use Rattle.wire.specs.Bits.{bitsAt, bits-shift}
+use Rattle.wire.specs.Bits.{bits-shift, bits-mask}
 use Rattle.mmtp.specs.Header.{
   first,
   payloadStart,
@@ -23,10 +21,6 @@ use Rattle.mmtp.specs.Header.{
 use borrow.Author.Needs.{needs}
 use Rattle.mmtp.proofs.header.read.Statement.{statement}
 use Rattle.mmtp.proofs.header.read.Tie as tie
-
--- a mask alone takes out the lowest bits
-low-bits : (n w : ℕ) → bitAnd n (2 ^ w - 1) ≡ bitsAt 0 w n
-low-bits n w = rw div-one (and-mask n w)
 
 -- the start is found, and lies in the packet
 found : (d : tie.After-at) → let m = d .before .before .before .before .args .m .now in
@@ -71,7 +65,7 @@ returns-4 c =
     let d = c .before .before .before in
     let a = d .before .before .before .before in
     let p = plain-good _ (sym (bits-shift _ 6 2) ∙ d .before .if1 .left) (sym (bits-shift _ 3 2) ∙ d .if2 .left) in
-    rw (header-good _ (found a .1) p, low-bits _ 6, c .before .read16 .ensures, c .read32 .ensures, found a .0)
+    rw (header-good _ (found a .1) p, bits-mask _ 6, c .before .read16 .ensures, c .read32 .ensures, found a .0)
 
 pub read-spec : {M : Type 1} → statement M
 read-spec =

@@ -3,8 +3,8 @@ use mathlib.Core.Path.{_≡_}
 use mathlib.Core.Bool.{true}
 use borrow.Author.Needs.{needs}
 use borrow.Author.Tests.{not-true, not-false, lt-ltb, le-ltb}
-use Rattle.wire.specs.Bits.{bits-shift}
-use Rattle.tmcc.specs.Mode.{within, used, modulation, codeRate, bits-mask}
+use Rattle.wire.specs.Bits.{bits-shift, bits-mask}
+use Rattle.tmcc.specs.Mode.{within, used, modulation, codeRate}
 use Rattle.tmcc.proofs.mode.is_used.Statement.{statement}
 use Rattle.tmcc.proofs.mode.is_used.Tie as tie
 

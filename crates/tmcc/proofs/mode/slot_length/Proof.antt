@@ -4,7 +4,8 @@ use mathlib.Core.Path.{sym}
 use native.Mathlib.Omega.{arith}
 use lib.ListN.{getD}
 use Rattle.wire.specs.Bits.{bits-shift}
-use Rattle.tmcc.specs.Mode.{bits-mask, length-live, length-dummy}
+use Rattle.wire.specs.Bits.{bits-mask}
+use Rattle.tmcc.specs.Mode.{length-live, length-dummy}
 use borrow.Author.Needs.{needs}
 use Rattle.tmcc.proofs.mode.slot_length.Statement.{statement}
 use Rattle.tmcc.proofs.mode.slot_length.Tie as tie

@@ -1,7 +1,6 @@
 -- Why stream::of_slot meets its contract: the halves by shift and mask, in their order.
 use borrow.Author.Tests.{eq-eqb, ne-eqb}
-use Rattle.wire.specs.Bits.{bits-shift}
-use Rattle.tmcc.specs.Mode.{bits-mask}
+use Rattle.wire.specs.Bits.{bits-shift, bits-mask}
 use Rattle.tmcc.specs.Stream.{relativeStream}
 use borrow.Author.Needs.{needs}
 use Rattle.tmcc.proofs.stream.of_slot.Statement.{statement}
