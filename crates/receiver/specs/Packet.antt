@@ -75,7 +75,10 @@ unitLen u = u .end - u .start
 abbrev pub pieceFrom : Packet → DataUnit → Piece
 pieceFrom k u =
     record {
-      unit = carried k (u .fields); indicator = k .payload .indicator; counter = k .payload .counter; len = unitLen u
+      unit = carried k (u .fields);
+      indicator = k .payload .indicator;
+      counter = k .payload .counter;
+      len = unitLen u;
     }
 
 -- "id k (from 0) collects from k × R": the piece's bytes, where the action says
@@ -104,7 +107,7 @@ abbrev pub wholeGiven : Located → DataUnit → Given
 wholeGiven l u =
     record {
       unit = carried (l .packet) (u .fields);
-      place = record { memory = PacketMemory; start = l .start + u .start; len = unitLen u }
+      place = record { memory = PacketMemory; start = l .start + u .start; len = unitLen u };
     }
 
 -- a joined unit stands in collecting memory
@@ -136,10 +139,10 @@ unitIn l p = firstUnit (bytesAt l p) (l .packet .payload)
 abbrev pub stepOf : Channel → Located → List ℕ → ℕ → Joined
 stepOf ch l p limit = joinOf ch (pieceFrom (l .packet) (unitIn l p)) limit
 
-unfoldable pub joinedPacket : Channel → Located → List ℕ → ℕ → JoinedPacket
-joinedPacket ch l p limit =
-    let j = stepOf ch l p limit in
-    record { channel = j .channel; queue = queueOf j l (baseOf l limit) (unitIn l p) }
+-- the state of the packet_id, what next has yet to give, and collecting memory
+abbrev pub joinedBy : Joined → Located → List ℕ → DataUnit → List ℕ → ℕ → JoinedPacket × List ℕ
+joinedBy j l m u c base =
+    (record { channel = j .channel; queue = queueOf j l base u }, collected (j .action) c base m u)
 
-unfoldable pub joinedMem : Channel → Located → List ℕ → List ℕ → ℕ → List ℕ
-joinedMem ch l p c limit = collected (stepOf ch l p limit .action) c (baseOf l limit) (bytesAt l p) (unitIn l p)
+unfoldable pub joinedOf : Channel → Located → List ℕ → List ℕ → ℕ → JoinedPacket × List ℕ
+joinedOf ch l p c limit = joinedBy (stepOf ch l p limit) l (bytesAt l p) (unitIn l p) c (baseOf l limit)

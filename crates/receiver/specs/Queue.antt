@@ -25,7 +25,7 @@ abbrev pub manyBy : Step → Aggregate → Queue → Taken
 manyBy (UnitAt u) a q =
     record {
       event = Unit (wholeGiven (record { packet = a .packet; start = a .start; end = a .end }) u);
-      queue = giving q (Many (record { packet = a .packet; start = a .start; end = a .end; at = u .end }))
+      queue = giving q (Many (record { packet = a .packet; start = a .start; end = a .end; at = u .end }));
     }
 manyBy Malformed a q = record { event = Nothing; queue = giving q NoUnit }
 manyBy End a q = record { event = Nothing; queue = giving q NoUnit }
@@ -45,5 +45,5 @@ takenOf q p =
     (giveBy (q .give) q p))
     (record {
       event = Note (q .note) (q .«packet_id»);
-      queue = record { note = 0; over = q .over; «packet_id» = q .«packet_id»; give = q .give }
+      queue = record { note = 0; over = q .over; «packet_id» = q .«packet_id»; give = q .give };
     })

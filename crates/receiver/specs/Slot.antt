@@ -77,23 +77,26 @@ resumedMem GoesOn h p d = continuedMem h p d (length d)
 unfoldable pub copied : List ℕ → List ℕ → List ℕ
 copied p d = pasted p slotArea d (length d)
 
--- an own live slot by whether it is sound and whether bytes are held
-abbrev pub ownStateBy : Bool → Bool → State → List ℕ → List ℕ → Pointers → State
-ownStateBy false on st p d t = withSlot st searching (noted 41)
-ownStateBy true false st p d t = readingFrom st 0 0 (t .0) (length d)
-ownStateBy true true st p d t =
-    resumedState (continuationOf (heldBytes (st .held) p) d (t .0) (t .1)) st (heldLen (st .held) p) (t .0) (length d)
+-- the state, and packet memory
+abbrev pub Taken : Type 0
+Taken = State × List ℕ
 
-abbrev pub ownMemBy : Bool → Bool → State → List ℕ → List ℕ → Pointers → List ℕ
-ownMemBy false on st p d t = p
-ownMemBy true false st p d t = p
-ownMemBy true true st p d t = resumedMem (continuationOf (heldBytes (st .held) p) d (t .0) (t .1)) (st .held) p d
+abbrev pub resumedBy : Continuation → State → List ℕ → List ℕ → Pointers → Taken
+resumedBy k st p d t = (resumedState k st (heldLen (st .held) p) (t .0) (length d), resumedMem k (st .held) p d)
 
-unfoldable pub ownState : State → List ℕ → List ℕ → Pointers → State
-ownState st p d t = ownStateBy (sound d (t .0) (t .1)) (st .held .on) st p d t
+unfoldable pub resumedOf : State → List ℕ → List ℕ → Pointers → Taken
+resumedOf st p d t = resumedBy (continuationOf (heldBytes (st .held) p) d (t .0) (t .1)) st p d t
 
-unfoldable pub ownMem : State → List ℕ → List ℕ → Pointers → List ℕ
-ownMem st p d t = copied (ownMemBy (sound d (t .0) (t .1)) (st .held .on) st p d t) d
+-- an own live slot by whether it is sound and whether bytes are held, before it is copied
+abbrev pub ownBy : Bool → Bool → State → List ℕ → List ℕ → Pointers → Taken
+ownBy false on st p d t = (withSlot st searching (noted 41), p)
+ownBy true false st p d t = (readingFrom st 0 0 (t .0) (length d), p)
+ownBy true true st p d t = resumedOf st p d t
+
+unfoldable pub ownOf : State → List ℕ → List ℕ → Pointers → Taken
+ownOf st p d t =
+    let r = ownBy (sound d (t .0) (t .1)) (st .held .on) st p d t in
+    (r .0, copied (r .1) d)
 
 -- the slot that is due: its data length, pointers, and whether it is an own live one
 abbrev pub dueLength : State → ℕ
@@ -115,7 +118,7 @@ Out = Called × List ℕ
 -- "A dummy slot ..; it, or another stream's slot, given or lost, is only counted"
 abbrev pub slotTaken : Bool → State → List ℕ → List ℕ → Pointers → Out
 slotTaken false st p d t = (accepted (counted st), p)
-slotTaken true st p d t = (accepted (ownState (counted st) p d t), ownMem (counted st) p d t)
+slotTaken true st p d t = let r = ownOf (counted st) p d t in (accepted (r .0), r .1)
 
 unfoldable pub slotOf : State → List ℕ → List ℕ → List ℕ → Out
 slotOf st p c d =

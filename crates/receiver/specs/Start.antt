@@ -35,8 +35,13 @@ twice w n = twiceBelow w (min n 16)
 unfoldable pub freshState : Config → State
 freshState c =
     record {
-      config = c; frame = record { layout = blankLayout; at = 120 }; owed = false; held = searching; cursor = noted 0;
-      queue = empty; channels = replicate 16 unheard
+      config = c;
+      frame = record { layout = blankLayout; at = 120 };
+      owed = false;
+      held = searching;
+      cursor = noted 0;
+      queue = empty;
+      channels = replicate 16 unheard;
     }
 
 -- "1 n not 1 to 16; 2 an id twice; 3 CID above 4,095; 4 R not 1 to 1,048,576"; 0 for none

@@ -29,32 +29,61 @@ empty = record { note = 0; over = false; «packet_id» = 0; give = Nothing }
 abbrev pub withFrame : State → Frame → State
 withFrame st f =
     record {
-      config = st .config; frame = f; owed = st .owed; held = st .held; cursor = st .cursor; queue = st .queue; channels = st .channels
+      config = st .config;
+      frame = f;
+      owed = st .owed;
+      held = st .held;
+      cursor = st .cursor;
+      queue = st .queue;
+      channels = st .channels;
     }
 
 abbrev pub withOwed : State → Bool → State
 withOwed st o =
     record {
-      config = st .config; frame = st .frame; owed = o; held = st .held; cursor = st .cursor; queue = st .queue;
-      channels = st .channels
+      config = st .config;
+      frame = st .frame;
+      owed = o;
+      held = st .held;
+      cursor = st .cursor;
+      queue = st .queue;
+      channels = st .channels;
     }
 
 abbrev pub withSlot : State → Held → Cursor → State
 withSlot st h c =
     record {
-      config = st .config; frame = st .frame; owed = st .owed; held = h; cursor = c; queue = st .queue; channels = st .channels
+      config = st .config;
+      frame = st .frame;
+      owed = st .owed;
+      held = h;
+      cursor = c;
+      queue = st .queue;
+      channels = st .channels;
     }
 
 abbrev pub withQueue : State → Queue → State
 withQueue st q =
     record {
-      config = st .config; frame = st .frame; owed = st .owed; held = st .held; cursor = st .cursor; queue = q; channels = st .channels
+      config = st .config;
+      frame = st .frame;
+      owed = st .owed;
+      held = st .held;
+      cursor = st .cursor;
+      queue = q;
+      channels = st .channels;
     }
 
 abbrev pub withChannels : State → List Channel → State
 withChannels st l =
     record {
-      config = st .config; frame = st .frame; owed = st .owed; held = st .held; cursor = st .cursor; queue = st .queue; channels = l
+      config = st .config;
+      frame = st .frame;
+      owed = st .owed;
+      held = st .held;
+      cursor = st .cursor;
+      queue = st .queue;
+      channels = l;
     }
 
 -- a call that is refused: its number, and the state as it was

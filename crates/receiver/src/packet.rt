@@ -2,16 +2,25 @@
 ghost use mathlib.Core.Path.{_≡_};
 ghost use Prim.Native.Nat.{_+_, _*_, _≤_, _<_};
 ghost use lib.ListN.{length};
-ghost use Rattle.receiver.specs.Packet.{readBy, arrivedAt, firstUnit, pieceFrom, Room, Reach, collected, wholeGiven, wholesOf, giveOf, joinedPacket, joinedMem};
-use crate::answer::{Given, Memory, Place};
-use crate::state::{Aggregate, Give, Queue};
+ghost use Rattle.receiver.specs.Packet.{readBy, arrivedAt, firstUnit, pieceFrom, Room, Reach, collected, wholeGiven, wholesOf, giveOf, joinedOf};
+use crate::answer::Given;
+use crate::answer::Memory;
+use crate::answer::Place;
+use crate::state::Aggregate;
+use crate::state::Give;
+use crate::state::Queue;
 use mmtp::flow::Flow;
-use mmtp::packet::{Packet, Reading};
+use mmtp::packet::Packet;
+use mmtp::packet::Reading;
 use mmtp::payload::Payload;
-use mmtp::unit::{DataUnit, Fields, Step};
+use mmtp::unit::DataUnit;
+use mmtp::unit::Fields;
+use mmtp::unit::Step;
 use reassembly::channel::Channel;
 use reassembly::config::Config;
-use reassembly::join::{Action, Joined, Piece};
+use reassembly::join::Action;
+use reassembly::join::Joined;
+use reassembly::join::Piece;
 
 // An MMTP packet of a watched packet_id, and where it stands in packet memory.
 pub struct Located {
@@ -48,10 +57,10 @@ fn locate(reading: Reading, start: usize, end: usize) -> Arrived
 
 // The TLV packet that stands from `start` to `end` in packet memory.
 pub fn arrive(config: Config, memory: &[u8], start: usize, end: usize) -> Arrived
-    requires { ⌜ (start ≤ end) × (end ≤ length (now memory)) ⌝ }
     ensures { λ r. ⌜ r ≡ arrivedAt config (now (memory .entry)) start end ⌝ }
 {
-    let bytes = &memory[start..end];
+    let len = if end < start { 0 } else { end - start };
+    let bytes = wire::memory::part(memory, start, len);
     let flow = mmtp::flow::find(bytes, config.cid);
     match flow {
         Flow::Silent => Arrived::Silent,
@@ -184,14 +193,21 @@ fn give_wholes(l: Located, u: DataUnit) -> Give
 }
 
 // A packet is joined to the state of its packet_id, which collects from its place × `limit`.
-pub fn join(ch: Channel, l: Located, memory: &[u8], collecting: &mut [u8], limit: usize) -> JoinedPacket
-    requires { ⌜ (l .start ≤ l .end) × (l .end ≤ length (now memory)) × (l .packet .place * limit + limit ≤ length (now collecting)) ⌝ }
-    ensures { λ r. ⌜ (r, now (collecting .exit)) ≡ (joinedPacket ch l (now (memory .entry)) limit, joinedMem ch l (now (memory .entry)) (now (collecting .entry)) limit) ⌝ }
+pub fn join(
+    ch: Channel,
+    l: Located,
+    memory: &[u8],
+    collecting: &mut [u8],
+    limit: usize,
+) -> JoinedPacket
+    requires { ⌜ l .packet .place * limit + limit ≤ length (now collecting) ⌝ }
+    ensures { λ r. ⌜ (r, now (collecting .exit)) ≡ joinedOf ch l (now (memory .entry)) (now (collecting .entry)) limit ⌝ }
 {
     let packet = l.packet;
     let start = l.start;
     let end = l.end;
-    let m = &memory[start..end];
+    let len = if end < start { 0 } else { end - start };
+    let m = wire::memory::part(memory, start, len);
     let payload = packet.payload;
     let u = first_unit(m, payload);
     let p = piece(packet, u);

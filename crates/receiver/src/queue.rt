@@ -2,8 +2,11 @@
 ghost use mathlib.Core.Path.{_≡_};
 ghost use Rattle.receiver.specs.Queue.{giveBy, takenOf};
 use crate::answer::Event;
-use crate::packet::{whole, Located};
-use crate::state::{Aggregate, Give, Queue};
+use crate::packet::Located;
+use crate::packet::whole;
+use crate::state::Aggregate;
+use crate::state::Give;
+use crate::state::Queue;
 use mmtp::unit::Step;
 
 // An event, Nothing where the queue is empty, and the queue after it.

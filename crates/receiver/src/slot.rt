@@ -4,9 +4,12 @@ ghost use Prim.Native.Nat.{_+_, _≤_, _<_};
 ghost use lib.ListN.{length};
 ghost use Rattle.tlv.specs.Held.{continuationOf};
 ghost use Rattle.receiver.specs.State.{searching, holding, noted, withSlot};
-ghost use Rattle.receiver.specs.Slot.{shortBy, refusalOf, counted, cursorFrom, readingFrom, continuedMem, heldBytes, heldLen, resumedState, resumedMem, ownState, ownMem, wrongLength, slotOf, lostSlotOf};
+ghost use Rattle.receiver.specs.Slot.{shortBy, refusalOf, counted, cursorFrom, readingFrom, continuedMem, heldBytes, heldLen, resumedState, resumedOf, ownOf, wrongLength, slotOf, lostSlotOf};
 use crate::answer::Called;
-use crate::state::{Cursor, Frame, Held, State};
+use crate::state::Cursor;
+use crate::state::Frame;
+use crate::state::Held;
+use crate::state::State;
 use reassembly::config::Config;
 use tlv::held::Continuation;
 use tmcc::layout::Pointers;
@@ -136,29 +139,29 @@ fn mark_unsound(st: State) -> State
 fn held_len(held: Held, packet: &[u8]) -> usize
     ensures { λ r. ⌜ r ≡ heldLen held (now (packet .entry)) ⌝ }
 {
-    let bytes = wire::memory::part(packet, held.start, held.len);
-    bytes.len()
+    let s = wire::memory::part(packet, held.start, held.len);
+    s.len()
 }
 
 // The held bytes come to stand from byte 0, and the first `k` bytes of the slot follow them.
-fn continue_packet(held: Held, packet: &mut [u8], data: &[u8], k: usize)
-    requires { ⌜ (k ≤ length (now data)) × (heldLen held (now packet) + k ≤ length (now packet)) ⌝ }
-    ensures { λ _. ⌜ now (packet .exit) ≡ continuedMem held (now (packet .entry)) (now (data .entry)) k ⌝ }
+fn continue_packet(held: Held, packet: &mut [u8], bytes: &[u8], k: usize)
+    requires { ⌜ (k ≤ length (now bytes)) × (heldLen held (now packet) + k ≤ length (now packet)) ⌝ }
+    ensures { λ _. ⌜ now (packet .exit) ≡ continuedMem held (now (packet .entry)) (now (bytes .entry)) k ⌝ }
 {
     let n = held_len(held, packet);
     let start = held.start;
     if 0 < n {
         wire::memory::move_down(packet, 0, start, n);
     }
-    wire::memory::copy_at(packet, n, &data[0..k]);
+    wire::memory::copy_at(packet, n, &bytes[0..k]);
 }
 
 // What becomes of the held packet.
-fn resume(held: Held, packet: &[u8], data: &[u8], t: Pointers) -> Continuation
-    ensures { λ r. ⌜ r ≡ continuationOf (heldBytes held (now (packet .entry))) (now (data .entry)) (t .0) (t .1) ⌝ }
+fn resume(held: Held, packet: &[u8], bytes: &[u8], t: Pointers) -> Continuation
+    ensures { λ r. ⌜ r ≡ continuationOf (heldBytes held (now (packet .entry))) (now (bytes .entry)) (t .0) (t .1) ⌝ }
 {
-    let bytes = wire::memory::part(packet, held.start, held.len);
-    tlv::held::resume(bytes, data, t.0, t.1)
+    let s = wire::memory::part(packet, held.start, held.len);
+    tlv::held::resume(s, bytes, t.0, t.1)
 }
 
 // The held packet ends in the slot; the packets from the top pointer follow it.
@@ -197,50 +200,50 @@ fn extend_packet(st: State, n: usize, len: usize) -> State
 }
 
 // A sound slot comes to held bytes: the state, and in packet memory the held packet.
-fn resume_slot(st: State, packet: &mut [u8], data: &[u8], t: Pointers) -> State
-    requires { ⌜ (21433 ≤ length (now packet)) × (length (now data) ≤ 5049) ⌝ }
-    ensures { λ r. ⌜ (r, now (packet .exit)) ≡ (resumedState (continuationOf (heldBytes (st .held) (now (packet .entry))) (now (data .entry)) (t .0) (t .1)) st (heldLen (st .held) (now (packet .entry))) (t .0) (length (now (data .entry))), resumedMem (continuationOf (heldBytes (st .held) (now (packet .entry))) (now (data .entry)) (t .0) (t .1)) (st .held) (now (packet .entry)) (now (data .entry))) ⌝ }
+fn resume_slot(st: State, packet: &mut [u8], bytes: &[u8], t: Pointers) -> State
+    requires { ⌜ (21433 ≤ length (now packet)) × (length (now bytes) ≤ 5049) ⌝ }
+    ensures { λ r. ⌜ (r, now (packet .exit)) ≡ resumedOf st (now (packet .entry)) (now (bytes .entry)) t ⌝ }
 {
     let held = st.held;
-    let len = data.len();
+    let len = bytes.len();
     let n = held_len(held, packet);
-    let c = resume(held, packet, data, t);
+    let c = resume(held, packet, bytes, t);
     match c {
         Continuation::TooLong => read_from(st, 43, 0, t.0, len),
         Continuation::Misfit => read_from(st, 42, 0, t.0, len),
         Continuation::Ends(end) => {
-            continue_packet(held, packet, data, end);
+            continue_packet(held, packet, bytes, end);
             end_packet(st, n, end, t.0, len)
         }
         Continuation::GoesOn => {
-            continue_packet(held, packet, data, len);
+            continue_packet(held, packet, bytes, len);
             extend_packet(st, n, len)
         }
     }
 }
 
 // An own live slot: its state, and packet memory.
-fn take_own(st: State, packet: &mut [u8], data: &[u8], t: Pointers) -> State
-    requires { ⌜ (21433 ≤ length (now packet)) × (length (now data) ≤ 5049) ⌝ }
-    ensures { λ r. ⌜ (r, now (packet .exit)) ≡ (ownState st (now (packet .entry)) (now (data .entry)) t, ownMem st (now (packet .entry)) (now (data .entry)) t) ⌝ }
+fn take_own(st: State, packet: &mut [u8], bytes: &[u8], t: Pointers) -> State
+    requires { ⌜ (21433 ≤ length (now packet)) × (length (now bytes) ≤ 5049) ⌝ }
+    ensures { λ r. ⌜ (r, now (packet .exit)) ≡ ownOf st (now (packet .entry)) (now (bytes .entry)) t ⌝ }
 {
     let held = st.held;
-    if !tlv::slot::is_sound(data, t.0, t.1) {
-        wire::memory::copy_at(packet, SLOT_AREA, data);
+    if !tlv::slot::is_sound(bytes, t.0, t.1) {
+        wire::memory::copy_at(packet, SLOT_AREA, bytes);
         return mark_unsound(st);
     }
     if held.on {
-        let next = resume_slot(st, packet, data, t);
-        wire::memory::copy_at(packet, SLOT_AREA, data);
+        let next = resume_slot(st, packet, bytes, t);
+        wire::memory::copy_at(packet, SLOT_AREA, bytes);
         return next;
     }
-    wire::memory::copy_at(packet, SLOT_AREA, data);
-    read_from(st, 0, 0, t.0, data.len())
+    wire::memory::copy_at(packet, SLOT_AREA, bytes);
+    read_from(st, 0, 0, t.0, bytes.len())
 }
 
-// The slot that is due, with its data.
-pub fn slot(st: State, packet: &mut [u8], collecting: &[u8], data: &[u8]) -> Called
-    ensures { λ r. ⌜ (r, now (packet .exit)) ≡ slotOf st (now (packet .entry)) (now (collecting .entry)) (now (data .entry)) ⌝ }
+// The slot that is due, with its bytes.
+pub fn slot(st: State, packet: &mut [u8], collecting: &[u8], bytes: &[u8]) -> Called
+    ensures { λ r. ⌜ (r, now (packet .exit)) ≡ slotOf st (now (packet .entry)) (now (collecting .entry)) (now (bytes .entry)) ⌝ }
 {
     let refusal = refusal(st, packet.len(), collecting.len());
     if refusal != 0 {
@@ -249,7 +252,7 @@ pub fn slot(st: State, packet: &mut [u8], collecting: &[u8], data: &[u8]) -> Cal
     let frame = st.frame;
     let at = frame.at;
     let layout = frame.layout;
-    if is_wrong(layout.lengths[at], data.len()) {
+    if is_wrong(layout.lengths[at], bytes.len()) {
         return Called {
             refusal: 23,
             state: st,
@@ -263,7 +266,7 @@ pub fn slot(st: State, packet: &mut [u8], collecting: &[u8], data: &[u8]) -> Cal
         };
     }
     let pointers = layout.pointers[at];
-    let state = take_own(next, packet, data, pointers);
+    let state = take_own(next, packet, bytes, pointers);
     Called { refusal: 0, state }
 }
 

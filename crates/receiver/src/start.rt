@@ -2,8 +2,15 @@
 ghost use mathlib.Core.Path.{_≡_};
 ghost use Rattle.receiver.specs.Start.{twice, freshState, refusalOf, startOf};
 use crate::answer::Called;
-use crate::state::{Cursor, Frame, Give, Held, Queue, State};
-use mmtp::watch::{lookup, Found, Watch};
+use crate::state::Cursor;
+use crate::state::Frame;
+use crate::state::Give;
+use crate::state::Held;
+use crate::state::Queue;
+use crate::state::State;
+use mmtp::watch::Found;
+use mmtp::watch::Watch;
+use mmtp::watch::lookup;
 use reassembly::config::Config;
 
 // Whether an id stands twice among the first `n`, at most 16.
