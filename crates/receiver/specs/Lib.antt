@@ -1,4 +1,5 @@
 -- The definitions of the receiver's calls.
+pub mod Tests
 pub mod State
 pub mod Start
 pub mod Frame

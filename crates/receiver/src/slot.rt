@@ -2,9 +2,12 @@
 ghost use mathlib.Core.Path.{_≡_};
 ghost use Prim.Native.Nat.{_+_, _≤_, _<_};
 ghost use lib.ListN.{length};
+ghost use mathlib.Core.Bool.{true};
+ghost use Rattle.tlv.specs.Slot.{sound};
 ghost use Rattle.tlv.specs.Held.{continuationOf};
 ghost use Rattle.receiver.specs.State.{searching, holding, noted, withSlot};
-ghost use Rattle.receiver.specs.Slot.{shortBy, refusalOf, counted, cursorFrom, readingFrom, continuedMem, heldBytes, heldLen, resumedState, resumedOf, ownOf, wrongLength, slotOf, lostSlotOf};
+ghost use Rattle.receiver.specs.Slot.{shortBy, refusalOf, counted, cursorFrom, readingFrom, wrongLength};
+ghost use Rattle.receiver.specs.Slot.{heldBytes, heldLen, movedMem, continuedMem, resumedState, resumedOf, ownOf, slotOf, lostSlotOf};
 use crate::answer::Called;
 use crate::state::Cursor;
 use crate::state::Frame;
@@ -143,16 +146,24 @@ fn held_len(held: Held, packet: &[u8]) -> usize
     s.len()
 }
 
+// The held bytes come to stand from byte 0.
+fn move_held(held: Held, packet: &mut [u8]) -> usize
+    ensures { λ r. ⌜ (r ≡ heldLen held (now (packet .entry))) × (now (packet .exit) ≡ movedMem held (now (packet .entry))) ⌝ }
+{
+    let n = held_len(held, packet);
+    if n == 0 {
+        return n;
+    }
+    wire::memory::move_down(packet, 0, held.start, n);
+    n
+}
+
 // The held bytes come to stand from byte 0, and the first `k` bytes of the slot follow them.
 fn continue_packet(held: Held, packet: &mut [u8], bytes: &[u8], k: usize)
     requires { ⌜ (k ≤ length (now bytes)) × (heldLen held (now packet) + k ≤ length (now packet)) ⌝ }
     ensures { λ _. ⌜ now (packet .exit) ≡ continuedMem held (now (packet .entry)) (now (bytes .entry)) k ⌝ }
 {
-    let n = held_len(held, packet);
-    let start = held.start;
-    if 0 < n {
-        wire::memory::move_down(packet, 0, start, n);
-    }
+    let n = move_held(held, packet);
     wire::memory::copy_at(packet, n, &bytes[0..k]);
 }
 
@@ -201,7 +212,7 @@ fn extend_packet(st: State, n: usize, len: usize) -> State
 
 // A sound slot comes to held bytes: the state, and in packet memory the held packet.
 fn resume_slot(st: State, packet: &mut [u8], bytes: &[u8], t: Pointers) -> State
-    requires { ⌜ (21433 ≤ length (now packet)) × (length (now bytes) ≤ 5049) ⌝ }
+    requires { ⌜ (21433 ≤ length (now packet)) × (length (now bytes) ≤ 5049) × (sound (now bytes) (t .0) (t .1) ≡ true) ⌝ }
     ensures { λ r. ⌜ (r, now (packet .exit)) ≡ resumedOf st (now (packet .entry)) (now (bytes .entry)) t ⌝ }
 {
     let held = st.held;

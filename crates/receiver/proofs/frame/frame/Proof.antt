@@ -1,34 +1,37 @@
+-- Why frame meets its contract: each return is one case of the definition.
+use mathlib.Core.Path.{sym, _∙_}
+use Rattle.receiver.specs.Frame.{frame-short, frame-busy, frame-refused, frame-accepted}
 use borrow.Author.Needs.{needs}
 use Rattle.receiver.proofs.frame.frame.Statement.{statement}
 use Rattle.receiver.proofs.frame.frame.Tie as tie
-use Rattle.receiver.proofs.frame.frame.Reads as reads
-use Rattle.receiver.proofs.frame.frame.Lts as lts
-use Rattle.receiver.proofs.frame.is_busy.Reads as is-busy-reads
-use Rattle.tmcc.proofs.block.decode.Reads as decode-reads
 
--- src/frame.rt:26:9
 returns : tie.Need-returns
-returns c = ?
+returns c = sym (frame-short _ _ (c .if1 .taken))
 
--- src/frame.rt:31:8
 is-busy-requires : tie.Need-is-busy-requires
 is-busy-requires c κs = search needs
 
--- src/frame.rt:32:9
 returns-2 : tie.Need-returns-2
-returns-2 c = ?
+returns-2 c = sym (frame-busy _ _ (c .before .before .if1 .left) (sym (c .before .is-busy .ensures) ∙ c .if2 .taken))
 
--- src/frame.rt:38:9
 decode-requires : tie.Need-decode-requires
 decode-requires c κs = search needs
 
--- src/frame.rt:41:9
 returns-3 : tie.Need-returns-3
-returns-3 c = ?
+returns-3 c =
+    let b = c .before .before .before in
+    let e = c .before .decode .ensures in
+    let f = sym (b .before .is-busy .ensures) ∙ b .if2 .left in
+    rw e (sym (frame-refused _ _ (b .before .before .if1 .left) f (rw e at (c .if3 .taken))))
 
--- src/frame.rt:22:1
 returns-4 : tie.Need-returns-4
-returns-4 c = ?
+returns-4 c =
+    let d = c .before .before .before .before .before .before .before in
+    let b = d .before .before in
+    let e = d .decode .ensures in
+    let f = sym (b .before .is-busy .ensures) ∙ b .if2 .left in
+    let z = rw e at (c .before .before .before .before .before .before .if3 .left) in
+    rw e (sym (frame-accepted _ _ (b .before .before .if1 .left) f z))
 
 pub frame-spec : {M : Type 1} → statement M
 frame-spec =

@@ -1,39 +1,46 @@
+-- Why lost_slot meets its contract: each return is one case of the definition.
+use mathlib.Core.Path.{sym, _∙_}
+use native.Mathlib.Omega.{arith}
+use Rattle.receiver.specs.Slot.{lost-refused, lost-not-own, lost-own, ready}
+use borrow.Author.Tests.{not-true, not-false}
 use borrow.Author.Needs.{needs}
 use Rattle.receiver.proofs.slot.lost_slot.Statement.{statement}
 use Rattle.receiver.proofs.slot.lost_slot.Tie as tie
-use Rattle.receiver.proofs.slot.lost_slot.Reads as reads
-use Rattle.receiver.proofs.slot.lost_slot.Lts as lts
-use Rattle.receiver.proofs.frame.after_loss.Reads as after-loss-reads
-use Rattle.receiver.proofs.slot.count.Reads as count-reads
-use Rattle.receiver.proofs.slot.refusal.Reads as refusal-reads
 
--- src/slot.rt:277:9
 refusal-requires : tie.Need-refusal-requires
 refusal-requires c κs = search needs
 
--- src/slot.rt:279:9
 returns : tie.Need-returns
-returns c = ?
+returns c =
+    let e = c .before .refusal .ensures in
+    rw e (sym (lost-refused _ _ _ (rw e at (c .if1 .taken))))
 
--- src/slot.rt:284:9
 count-requires : tie.Need-count-requires
-count-requires c κs = ?
+count-requires c κs =
+    let d = c .before .before in
+    let r = ready _ _ _ (sym (d .before .refusal .ensures) ∙ d .if1 .left) in
+    omega (arith, r .due)
 
--- src/slot.rt:285:9
 element-copy-out-if2 : tie.Need-element-copy-out-if2
-element-copy-out-if2 c = ?
+element-copy-out-if2 c =
+    let d = c .before .before .before in
+    ready _ _ _ (sym (d .before .refusal .ensures) ∙ d .if1 .left) .due
 
--- src/slot.rt:286:9
 returns-2 : tie.Need-returns-2
-returns-2 c = ?
+returns-2 c =
+    let d = c .before .before .before .before .before in
+    let z = sym (d .before .refusal .ensures) ∙ d .if1 .left in
+    rw (c .before .before .count .ensures) (sym (lost-not-own _ _ _ z (not-true _ (c .if2 .taken))))
 
--- src/slot.rt:291:9
 after-loss-requires : tie.Need-after-loss-requires
 after-loss-requires c κs = search needs
 
--- src/slot.rt:274:1
 returns-3 : tie.Need-returns-3
-returns-3 c = ?
+returns-3 c =
+    let d = c .before .before .before .before .before .before in
+    let z = sym (d .before .refusal .ensures) ∙ d .if1 .left in
+    rw (c .after-loss .ensures, c .before .before .before .count .ensures)
+    (sym (lost-own _ _ _ z (not-false _ (c .before .if2 .left))))
 
 pub lost-slot-spec : {M : Type 1} → statement M
 lost-slot-spec =

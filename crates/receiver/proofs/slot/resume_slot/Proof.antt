@@ -1,94 +1,116 @@
+-- Why resume_slot meets its contract: each way that the held packet can take is one case of the definition.
+use Prim.Native.Nat.{_+_, _≤_}
+use mathlib.Core.Path.{sym, _∙_}
+use native.Mathlib.Omega.{arith}
+use denote.Ref.{now}
+use lib.ListN.{length}
+use Rattle.receiver.specs.Slot.{heldLen, resumedState, resumedMem, resumed}
+use Rattle.receiver.proofs.SlotLaws.{held-fits, ends-room, goes-on-room}
 use borrow.Author.Needs.{needs}
 use Rattle.receiver.proofs.slot.resume_slot.Statement.{statement}
 use Rattle.receiver.proofs.slot.resume_slot.Tie as tie
-use Rattle.receiver.proofs.slot.resume_slot.Reads as reads
-use Rattle.receiver.proofs.slot.resume_slot.Lts as lts
-use Rattle.receiver.proofs.slot.continue_packet.Reads as continue-packet-reads
-use Rattle.receiver.proofs.slot.end_packet.Reads as end-packet-reads
-use Rattle.receiver.proofs.slot.extend_packet.Reads as extend-packet-reads
-use Rattle.receiver.proofs.slot.held_len.Reads as held-len-reads
-use Rattle.receiver.proofs.slot.read_from.Reads as read-from-reads
-use Rattle.receiver.proofs.slot.resume.Reads as resume-reads
 
--- src/slot.rt:209:9
+-- what continues the held packet is in the slot, and fits behind the held bytes
+ends : (c : tie.After-known-told)
+    → let a = c .before .before .before .before .before .before .before .before .before .before .args in
+    let k = c .before .c .given .0 .0 in
+    (k ≤ length (now (a .bytes))) × (heldLen (a .st .held) (now (a .packet)) + k ≤ length (now (a .packet)))
+ends c =
+    let s = c .before .before .before .before .before .before .before .before .before .before in
+    let a = s .args in
+    let r = ends-room _ _ _ _ _ (s .pre .2) (sym (c .before .before .before .resume .ensures) ∙ c .before .c .given .1) in
+    (r .within, held-fits (a .st .held) (now (a .packet)) (now (a .bytes)) _ (omega (arith, s .pre .0)) r)
+
+goes-on : (c : tie.After-enum-told3)
+    → let a = c .before .before .before .before .before .before .before .before .before .args in
+    let k = length (now (a .bytes)) in
+    (k ≤ length (now (a .bytes))) × (heldLen (a .st .held) (now (a .packet)) + k ≤ length (now (a .packet)))
+goes-on c =
+    let s = c .before .before .before .before .before .before .before .before .before in
+    let a = s .args in
+    let r = goes-on-room _ _ _ _ (sym (c .before .before .resume .ensures) ∙ c .enum-told3 .given .1) in
+    (r .within, held-fits (a .st .held) (now (a .packet)) (now (a .bytes)) _ (omega (arith, s .pre .0)) r)
+
 held-len-requires : tie.Need-held-len-requires
 held-len-requires c κs = search needs
 
--- src/slot.rt:210:9
 resume-requires : tie.Need-resume-requires
 resume-requires c κs = search needs
 
--- src/slot.rt:212:34
 enum-told : tie.Need-enum-told
 enum-told c = search needs
 
--- src/slot.rt:212:34
 read-from-requires : tie.Need-read-from-requires
 read-from-requires c κs = search needs
 
--- src/slot.rt:213:33
 enum-told-2 : tie.Need-enum-told-2
 enum-told-2 c = search needs
 
--- src/slot.rt:213:33
 read-from-requires-2 : tie.Need-read-from-requires-2
 read-from-requires-2 c κs = search needs
 
--- src/slot.rt:214:28
 enum-known-c : tie.Need-enum-known-c
 enum-known-c c = search needs
 
--- src/slot.rt:215:13
 continue-packet-requires : tie.Need-continue-packet-requires
-continue-packet-requires c κs = ?
+continue-packet-requires c κs = ends (c .before)
 
--- src/slot.rt:216:13
 end-packet-requires : tie.Need-end-packet-requires
-end-packet-requires c κs = ?
+end-packet-requires c κs =
+    let d = c .before .before .before .before in
+    let s = d .before .before .before .before .before in
+    (omega (arith, s .held-len .ensures, ends d .1), s .before .before .before .before .before .pre .1)
 
--- src/slot.rt:219:35
 enum-told-3 : tie.Need-enum-told-3
 enum-told-3 c = search needs
 
--- src/slot.rt:219:13
 continue-packet-requires-2 : tie.Need-continue-packet-requires-2
-continue-packet-requires-2 c κs = ?
+continue-packet-requires-2 c κs = goes-on (c .before)
 
--- src/slot.rt:220:13
 extend-packet-requires : tie.Need-extend-packet-requires
-extend-packet-requires c κs = ?
+extend-packet-requires c κs =
+    let d = c .before .before .before .before in
+    omega (arith, d .before .before .before .before .held-len .ensures, goes-on d .1)
 
--- src/slot.rt:203:1
 same-length : tie.Need-same-length
 same-length c = search needs
 
--- src/slot.rt:203:1
 returns : tie.Need-returns
-returns c = ?
+unfolding resumedState resumedMem
+returns c =
+    let e = sym (c .before .before .before .resume .ensures) ∙ c .before .enum-told .given .1 in
+    rw (c .read-from .ensures) (sym (resumed _ _ _ _ _ e))
 
--- src/slot.rt:203:1
 same-length-2 : tie.Need-same-length-2
 same-length-2 c = search needs
 
--- src/slot.rt:203:1
 returns-2 : tie.Need-returns-2
-returns-2 c = ?
+unfolding resumedState resumedMem
+returns-2 c =
+    let e = sym (c .before .before .before .resume .ensures) ∙ c .before .enum-told2 .given .1 in
+    rw (c .read-from2 .ensures) (sym (resumed _ _ _ _ _ e))
 
--- src/slot.rt:203:1
 same-length-3 : tie.Need-same-length-3
 same-length-3 c = search needs
 
--- src/slot.rt:203:1
 returns-3 : tie.Need-returns-3
-returns-3 c = ?
+unfolding resumedMem
+returns-3 c =
+    let d = c .before .before .before .before .before .before in
+    let n = d .before .before .before .before .held-len .ensures in
+    let e = sym (d .before .before .resume .ensures) ∙ d .c .given .1 in
+    rw (c .end-packet .ensures, n, c .before .before .before .continue-packet .ensures) (sym (resumed _ _ _ _ _ e))
 
--- src/slot.rt:203:1
 same-length-4 : tie.Need-same-length-4
 same-length-4 c = search needs
 
--- src/slot.rt:203:1
 returns-4 : tie.Need-returns-4
-returns-4 c = ?
+unfolding resumedState resumedMem
+returns-4 c =
+    let d = c .before .before .before .before .before in
+    let n = d .before .before .before .before .held-len .ensures in
+    let e = sym (d .before .before .resume .ensures) ∙ d .enum-told3 .given .1 in
+    rw (c .extend-packet .ensures, n, c .before .before .before .continue-packet2 .ensures) (sym (resumed _ _ _ _ _ e))
 
 pub resume-slot-spec : {M : Type 1} → statement M
 resume-slot-spec =

@@ -1,68 +1,90 @@
+-- Why slot meets its contract: each return is one case of the definition.
+use mathlib.Core.Path.{sym, _∙_, ap}
+use native.Mathlib.Omega.{arith}
+use borrow.Author.Tests.{not-true, not-false}
+use Rattle.receiver.specs.State.{accepted}
+use Rattle.receiver.specs.Slot.{Taken, Out, ready, right-length, slot-refused, slot-wrong-length, slot-not-own, slot-own}
 use borrow.Author.Needs.{needs}
 use Rattle.receiver.proofs.slot.slot.Statement.{statement}
 use Rattle.receiver.proofs.slot.slot.Tie as tie
-use Rattle.receiver.proofs.slot.slot.Reads as reads
-use Rattle.receiver.proofs.slot.slot.Lts as lts
-use Rattle.receiver.proofs.slot.count.Reads as count-reads
-use Rattle.receiver.proofs.slot.is_wrong.Reads as is-wrong-reads
-use Rattle.receiver.proofs.slot.refusal.Reads as refusal-reads
-use Rattle.receiver.proofs.slot.take_own.Reads as take-own-reads
 
--- src/slot.rt:248:9
 refusal-requires : tie.Need-refusal-requires
 refusal-requires c κs = search needs
 
--- src/slot.rt:250:9
 returns : tie.Need-returns
-returns c = ?
+returns c =
+    let e = c .before .refusal .ensures in
+    rw e (sym (slot-refused _ _ _ _ (rw e at (c .if1 .taken))))
 
--- src/slot.rt:255:17
 mul-is-wrong : tie.Need-mul-is-wrong
-mul-is-wrong c = ?
+mul-is-wrong c =
+    let d = c .before .before in
+    omega (arith, ready _ _ _ (sym (d .before .refusal .ensures) ∙ d .if1 .left) .due)
 
--- src/slot.rt:255:17
 element-copy-out-is-wrong : tie.Need-element-copy-out-is-wrong
-element-copy-out-is-wrong c = ?
+element-copy-out-is-wrong c =
+    let d = c .before .before in
+    ready _ _ _ (sym (d .before .refusal .ensures) ∙ d .if1 .left) .due
 
--- src/slot.rt:255:8
 is-wrong-requires : tie.Need-is-wrong-requires
 is-wrong-requires c κs = search needs
 
--- src/slot.rt:256:9
 returns-2 : tie.Need-returns-2
-returns-2 c = ?
+returns-2 c =
+    let d = c .before .before .before .before .before in
+    let z = sym (d .before .refusal .ensures) ∙ d .if1 .left in
+    sym (slot-wrong-length _ _ _ _ z (sym (c .before .is-wrong .ensures) ∙ c .if2 .taken))
 
--- src/slot.rt:261:9
 count-requires : tie.Need-count-requires
-count-requires c κs = ?
+count-requires c κs =
+    let d = c .before .before .before .before .before in
+    let r = ready _ _ _ (sym (d .before .refusal .ensures) ∙ d .if1 .left) in
+    omega (arith, r .due)
 
--- src/slot.rt:262:9
 element-copy-out-if3 : tie.Need-element-copy-out-if3
-element-copy-out-if3 c = ?
+element-copy-out-if3 c =
+    let d = c .before .before .before .before .before .before in
+    ready _ _ _ (sym (d .before .refusal .ensures) ∙ d .if1 .left) .due
 
--- src/slot.rt:263:9
 returns-3 : tie.Need-returns-3
-returns-3 c = ?
+returns-3 c =
+    let w = c .before .before .before in
+    let d = w .before .before .before .before .before in
+    let z = sym (d .before .refusal .ensures) ∙ d .if1 .left in
+    let l = sym (w .before .is-wrong .ensures) ∙ w .if2 .left in
+    rw (c .before .before .count .ensures) (sym (slot-not-own _ _ _ _ z l (not-true _ (c .if3 .taken))))
 
--- src/slot.rt:268:20
 mul-pointers : tie.Need-mul-pointers
-mul-pointers c = ?
+mul-pointers c =
+    let d = c .before .before .before .before .before .before .before .before in
+    omega (arith, ready _ _ _ (sym (d .before .refusal .ensures) ∙ d .if1 .left) .due)
 
--- src/slot.rt:268:20
 element-copy-out-pointers : tie.Need-element-copy-out-pointers
-element-copy-out-pointers c = ?
+element-copy-out-pointers c =
+    let d = c .before .before .before .before .before .before .before .before in
+    ready _ _ _ (sym (d .before .refusal .ensures) ∙ d .if1 .left) .due
 
--- src/slot.rt:269:9
 take-own-requires : tie.Need-take-own-requires
-take-own-requires c κs = ?
+take-own-requires c κs =
+    let w = c .before .before .before .before .before in
+    let d = w .before .before .before .before .before in
+    let z = sym (d .before .refusal .ensures) ∙ d .if1 .left in
+    let l = sym (w .before .is-wrong .ensures) ∙ w .if2 .left in
+    (ready _ _ _ z .packets, right-length _ _ l .0)
 
--- src/slot.rt:245:1
 same-length : tie.Need-same-length
 same-length c = search needs
 
--- src/slot.rt:245:1
 returns-4 : tie.Need-returns-4
-returns-4 c = ?
+returns-4 c =
+    let o = c .before .before .before .before .before in
+    let w = o .before .before .before in
+    let d = w .before .before .before .before .before in
+    let z = sym (d .before .refusal .ensures) ∙ d .if1 .left in
+    let l = sym (w .before .is-wrong .ensures) ∙ w .if2 .left in
+    let f : Taken → Out = λ q. (accepted (q .0), q .1) in
+    ap f (rw (o .before .before .count .ensures) at (c .before .before .take-own .ensures))
+    ∙ sym (slot-own _ _ _ _ z l (not-false _ (o .if3 .left)))
 
 pub slot-spec : {M : Type 1} → statement M
 slot-spec =

@@ -1,61 +1,68 @@
+-- Why has_twice meets its contract: below k no id stands twice.
+use Prim.Native.Nat.{_≤_, _-_, min}
+use mathlib.Core.Path.{_≡_, sym, _∙_}
+use mathlib.Core.Bool.{false}
+use native.Mathlib.Omega.{arith}
+use Rattle.receiver.specs.Start.{twice, twiceBelow, twice-zero, twice-more, twice-hit, before-hit, before-none}
+use borrow.Author.Needs.{needs}
 use Rattle.receiver.proofs.start.has_twice.Statement.{statement}
 use Rattle.receiver.proofs.start.has_twice.Tie as tie
-use Rattle.receiver.proofs.start.has_twice.Reads as reads
-use Rattle.receiver.proofs.start.has_twice.Lts as lts
-use Rattle.mmtp.proofs.watch.lookup.Reads as lookup-reads
 
 abbrev Inv-loop : tie.InvT-loop
-Inv-loop n ids k₀ k = ?
+Inv-loop n ids k₀ k = (k ≤ 16) × (k ≤ n) × (twiceBelow ids k ≡ false)
 
 abbrev μ-loop : tie.MeasureT-loop
-μ-loop n ids k₀ k = ?
+μ-loop n ids k₀ k = 16 - k
 
--- src/start.rt:22:5
 loop-holds : tie.Need-loop-holds Inv-loop μ-loop
-loop-holds c = ?
+loop-holds c = (omega arith, omega arith, twice-zero _)
 
--- src/start.rt:24:13
 returns : tie.Need-returns Inv-loop μ-loop
-returns c = ?
+unfolding twice
+returns c =
+    let l = c .before .before .loop in
+    let e : min (c .before .before .before .before .args .n) 16 ≡ l .k = omega arith in
+    rw e (sym (l .inv .2))
 
--- src/start.rt:26:49
 mul-lookup : tie.Need-mul-lookup Inv-loop μ-loop
-mul-lookup c = ?
+mul-lookup c = omega arith
 
--- src/start.rt:26:49
 array-read-lookup : tie.Need-array-read-lookup Inv-loop μ-loop
-array-read-lookup c = ?
+array-read-lookup c = omega arith
 
--- src/start.rt:26:13
 lookup-requires : tie.Need-lookup-requires Inv-loop μ-loop
-lookup-requires c κs = ?
+lookup-requires c κs = search needs
 
--- src/start.rt:28:13
 enum-told : tie.Need-enum-told Inv-loop μ-loop
-enum-told c = ?
+enum-told c = search needs
 
--- src/start.rt:28:13
 returns-2 : tie.Need-returns-2 Inv-loop μ-loop
-returns-2 c = ?
+unfolding twice
+returns-2 c =
+    let h = c .before .before .lookup .ensures in
+    sym (twice-hit _ _ _ (omega arith) (before-hit _ _ _ (sym h ∙ c .enum-told .given .1)))
 
 enum-told-2 : tie.Need-enum-told-2 Inv-loop μ-loop
-enum-told-2 c = ?
+enum-told-2 c = search needs
 
--- src/start.rt:30:9
 add-k : tie.Need-add-k Inv-loop μ-loop
-add-k c = ?
+add-k c = omega arith
 
--- src/start.rt:22:5
 loop-less : tie.Need-loop-less Inv-loop μ-loop
-loop-less c = ?
+loop-less c = omega arith
 
--- src/start.rt:22:5
 loop-again : tie.Need-loop-again Inv-loop μ-loop
-loop-again c = ?
+loop-again c =
+    let h = c .before .before .lookup .ensures in
+    let l = c .before .before .before .before .before .loop in
+    (omega arith, omega arith, twice-more _ _ (l .inv .2) (before-none _ _ (sym h ∙ c .enum-told2 .given .1)))
 
--- src/start.rt:17:1
 returns-3 : tie.Need-returns-3 Inv-loop μ-loop
-returns-3 c = ?
+unfolding twice
+returns-3 c =
+    let l = c .before .loop in
+    let e : min (c .before .before .before .args .n) 16 ≡ l .k = omega arith in
+    rw e (sym (l .inv .2))
 
 pub has-twice-spec : {M : Type 1} → statement M
 has-twice-spec =
