@@ -1,0 +1,2 @@
+-- What is proved of the receiver's calls beside their code.
+pub mod SlotLaws

@@ -1,0 +1,83 @@
+-- Why take_own meets its contract: each return is one case of the definition.
+use mathlib.Core.Path.{sym, _∙_, ap}
+use denote.Ref.{now}
+use borrow.Author.Tests.{not-true, not-false}
+use Rattle.receiver.specs.Slot.{Taken, copied, own-unsound, own-searching, own-held}
+use borrow.Author.Needs.{needs}
+use Rattle.receiver.proofs.slot.take_own.Statement.{statement}
+use Rattle.receiver.proofs.slot.take_own.Tie as tie
+
+is-sound-requires : tie.Need-is-sound-requires
+is-sound-requires c κs = search needs
+
+copy-at-requires : tie.Need-copy-at-requires
+copy-at-requires c κs = search needs
+
+mark-unsound-requires : tie.Need-mark-unsound-requires
+mark-unsound-requires c κs = search needs
+
+same-length : tie.Need-same-length
+same-length c = search needs
+
+returns : tie.Need-returns
+unfolding copied
+returns c =
+    let d = c .before .before .before .before .before in
+    let s = sym (d .before .is-sound .ensures) ∙ not-true _ (d .if1 .taken) in
+    rw (c .mark-unsound .ensures, c .before .before .before .copy-at .ensures) (sym (own-unsound _ _ _ _ s))
+
+resume-slot-requires : tie.Need-resume-slot-requires
+resume-slot-requires c κs =
+    let d = c .before .before in
+    let p = d .before .before .before .before .before .pre in
+    (p .0, p .1, sym (d .before .is-sound .ensures) ∙ not-false _ (d .if1 .left))
+
+copy-at-requires-2 : tie.Need-copy-at-requires-2
+copy-at-requires-2 c κs = search needs
+
+same-length-2 : tie.Need-same-length-2
+same-length-2 c = search needs
+
+returns-2 : tie.Need-returns-2
+unfolding copied
+returns-2 c =
+    let d = c .before .before .before .before .before .before .before .before in
+    let s = sym (d .before .before .is-sound .ensures) ∙ not-false _ (d .before .if1 .left) in
+    let b = now (d .before .before .before .before .before .before .args .bytes) in
+    rw (c .before .before .copy-at2 .ensures)
+    (ap (λ (q : Taken). (q .0, copied (q .1) b)) (c .before .before .before .before .before .before .resume-slot .ensures)
+    ∙ sym (own-held _ _ _ _ s (d .if2 .taken)))
+
+copy-at-requires-3 : tie.Need-copy-at-requires-3
+copy-at-requires-3 c κs = search needs
+
+read-from-requires : tie.Need-read-from-requires
+read-from-requires c κs = search needs
+
+same-length-3 : tie.Need-same-length-3
+same-length-3 c = search needs
+
+returns-3 : tie.Need-returns-3
+unfolding copied
+returns-3 c =
+    let d = c .before .before .before .before .before in
+    let s = sym (d .before .before .is-sound .ensures) ∙ not-false _ (d .before .if1 .left) in
+    rw (c .read-from .ensures, c .before .before .before .copy-at3 .ensures) (sym (own-searching _ _ _ _ s (d .if2 .left)))
+
+pub take-own-spec : {M : Type 1} → statement M
+take-own-spec =
+    tie.close
+    (tie.spec
+    is-sound-requires
+    copy-at-requires
+    mark-unsound-requires
+    same-length
+    returns
+    resume-slot-requires
+    copy-at-requires-2
+    same-length-2
+    returns-2
+    copy-at-requires-3
+    read-from-requires
+    same-length-3
+    returns-3)

@@ -1,0 +1,84 @@
+-- Why has_twice meets its contract: below k no id stands twice.
+use Prim.Native.Nat.{_≤_, _-_, min}
+use mathlib.Core.Path.{_≡_, sym, _∙_}
+use mathlib.Core.Bool.{false}
+use native.Mathlib.Omega.{arith}
+use Rattle.receiver.specs.Start.{twice, twiceBelow, twice-zero, twice-more, twice-hit, before-hit, before-none}
+use borrow.Author.Needs.{needs}
+use Rattle.receiver.proofs.start.has_twice.Statement.{statement}
+use Rattle.receiver.proofs.start.has_twice.Tie as tie
+
+abbrev Inv-loop : tie.InvT-loop
+Inv-loop n ids k₀ k = (k ≤ 16) × (k ≤ n) × (twiceBelow ids k ≡ false)
+
+abbrev μ-loop : tie.MeasureT-loop
+μ-loop n ids k₀ k = 16 - k
+
+loop-holds : tie.Need-loop-holds Inv-loop μ-loop
+loop-holds c = (omega arith, omega arith, twice-zero _)
+
+returns : tie.Need-returns Inv-loop μ-loop
+unfolding twice
+returns c =
+    let l = c .before .before .loop in
+    let e : min (c .before .before .before .before .args .n) 16 ≡ l .k = omega arith in
+    rw e (sym (l .inv .2))
+
+mul-lookup : tie.Need-mul-lookup Inv-loop μ-loop
+mul-lookup c = omega arith
+
+array-read-lookup : tie.Need-array-read-lookup Inv-loop μ-loop
+array-read-lookup c = omega arith
+
+lookup-requires : tie.Need-lookup-requires Inv-loop μ-loop
+lookup-requires c κs = search needs
+
+enum-told : tie.Need-enum-told Inv-loop μ-loop
+enum-told c = search needs
+
+returns-2 : tie.Need-returns-2 Inv-loop μ-loop
+unfolding twice
+returns-2 c =
+    let h = c .before .before .lookup .ensures in
+    sym (twice-hit _ _ _ (omega arith) (before-hit _ _ _ (sym h ∙ c .enum-told .given .1)))
+
+enum-told-2 : tie.Need-enum-told-2 Inv-loop μ-loop
+enum-told-2 c = search needs
+
+add-k : tie.Need-add-k Inv-loop μ-loop
+add-k c = omega arith
+
+loop-less : tie.Need-loop-less Inv-loop μ-loop
+loop-less c = omega arith
+
+loop-again : tie.Need-loop-again Inv-loop μ-loop
+loop-again c =
+    let h = c .before .before .lookup .ensures in
+    let l = c .before .before .before .before .before .loop in
+    (omega arith, omega arith, twice-more _ _ (l .inv .2) (before-none _ _ (sym h ∙ c .enum-told2 .given .1)))
+
+returns-3 : tie.Need-returns-3 Inv-loop μ-loop
+unfolding twice
+returns-3 c =
+    let l = c .before .loop in
+    let e : min (c .before .before .before .args .n) 16 ≡ l .k = omega arith in
+    rw e (sym (l .inv .2))
+
+pub has-twice-spec : {M : Type 1} → statement M
+has-twice-spec =
+    tie.close
+    (tie.spec
+    Inv-loop
+    μ-loop
+    loop-holds
+    returns
+    mul-lookup
+    array-read-lookup
+    lookup-requires
+    enum-told
+    returns-2
+    enum-told-2
+    add-k
+    loop-less
+    loop-again
+    returns-3)

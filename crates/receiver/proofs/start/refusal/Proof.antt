@@ -1,0 +1,90 @@
+-- Why refusal meets its contract: the tests, in their order.
+use mathlib.Core.Path.{sym, _∙_}
+use borrow.Author.Tests.{lt-ltb, le-ltb}
+use Rattle.receiver.specs.Start.{refusalOf}
+use borrow.Author.Needs.{needs}
+use Rattle.receiver.proofs.start.refusal.Statement.{statement}
+use Rattle.receiver.proofs.start.refusal.Tie as tie
+
+returns : tie.Need-returns
+unfolding refusalOf
+returns c = rw (lt-ltb _ _ (c .if1 .taken))
+
+returns-2 : tie.Need-returns-2
+unfolding refusalOf
+returns-2 c = rw (le-ltb _ _ (c .before .if1 .left), lt-ltb _ _ (c .if2 .taken))
+
+has-twice-requires : tie.Need-has-twice-requires
+has-twice-requires c κs = search needs
+
+returns-3 : tie.Need-returns-3
+unfolding refusalOf
+returns-3 c =
+    let h = c .before .before in
+    rw (le-ltb _ _ (h .before .if1 .left), le-ltb _ _ (h .if2 .left), sym (c .before .has-twice .ensures) ∙ c .if3 .taken)
+
+returns-4 : tie.Need-returns-4
+unfolding refusalOf
+returns-4 c =
+    let d = c .before .before in
+    let h = d .before .before in
+    rw (
+      le-ltb _ _ (h .before .if1 .left),
+      le-ltb _ _ (h .if2 .left),
+      sym (d .before .has-twice .ensures) ∙ d .if3 .left,
+      lt-ltb _ _ (c .if4 .taken),
+    )
+
+returns-5 : tie.Need-returns-5
+unfolding refusalOf
+returns-5 c =
+    let d = c .before .before .before in
+    let h = d .before .before in
+    rw (
+      le-ltb _ _ (h .before .if1 .left),
+      le-ltb _ _ (h .if2 .left),
+      sym (d .before .has-twice .ensures) ∙ d .if3 .left,
+      le-ltb _ _ (c .before .if4 .left),
+      lt-ltb _ _ (c .if5 .taken),
+    )
+
+returns-6 : tie.Need-returns-6
+unfolding refusalOf
+returns-6 c =
+    let d = c .before .before .before .before in
+    let h = d .before .before in
+    rw (
+      le-ltb _ _ (h .before .if1 .left),
+      le-ltb _ _ (h .if2 .left),
+      sym (d .before .has-twice .ensures) ∙ d .if3 .left,
+      le-ltb _ _ (c .before .before .if4 .left),
+      le-ltb _ _ (c .before .if5 .left),
+      lt-ltb _ _ (c .if6 .taken),
+    )
+
+returns-7 : tie.Need-returns-7
+unfolding refusalOf
+returns-7 c =
+    let d = c .before .before .before .before in
+    let h = d .before .before in
+    rw (
+      le-ltb _ _ (h .before .if1 .left),
+      le-ltb _ _ (h .if2 .left),
+      sym (d .before .has-twice .ensures) ∙ d .if3 .left,
+      le-ltb _ _ (c .before .before .if4 .left),
+      le-ltb _ _ (c .before .if5 .left),
+      le-ltb _ _ (c .if6 .left),
+    )
+
+pub refusal-spec : {M : Type 1} → statement M
+refusal-spec =
+    tie.close
+    (tie.spec
+    returns
+    returns-2
+    has-twice-requires
+    returns-3
+    returns-4
+    returns-5
+    returns-6
+    returns-7)

@@ -1,0 +1,148 @@
+-- A TLV packet in packet memory: read, and joined to the state of its packet_id over collecting memory.
+use Prim.Native.Nat.{ℕ, _+_, _-_, _*_, _≤_, _<_}
+use mathlib.Core.Bool.{Bool, true, false, cond}
+use mathlib.Core.List.{List}
+use lib.ListN.{length, drop}
+use Rattle.wire.specs.Memory.{partOf, pasted}
+use Rattle.mmtp.specs.declared.flow.Flow.{Flow}
+use Rattle.mmtp.specs.declared.flow.Flow.the-variants.{Silent as OtherFlow, Malformed, Mmtp}
+use Rattle.mmtp.specs.declared.packet.Packet.{Packet}
+use Rattle.mmtp.specs.declared.packet.Reading.{Reading}
+use Rattle.mmtp.specs.declared.packet.Reading.the-variants.{Silent as Unwatched, BadHeader, BadPayload, Good as GoodPacket}
+use Rattle.mmtp.specs.declared.unit.DataUnit.{DataUnit}
+use Rattle.mmtp.specs.declared.unit.Step.{Step}
+use Rattle.mmtp.specs.declared.unit.Step.the-variants.{Unit, Malformed as NoUnit, End}
+use Rattle.mmtp.specs.declared.payload.Payload.{Payload}
+use Rattle.mmtp.specs.Flow.{flowOf}
+use Rattle.mmtp.specs.Packet.{readingOf}
+use Rattle.mmtp.specs.Unit.{noFields, singleAt}
+use Rattle.reassembly.specs.declared.config.Config.{Config}
+use Rattle.reassembly.specs.declared.channel.Channel.{Channel}
+use Rattle.reassembly.specs.declared.join.Piece.{Piece}
+use Rattle.reassembly.specs.declared.join.Joined.{Joined}
+use Rattle.reassembly.specs.declared.join.Action.{Action}
+use Rattle.reassembly.specs.declared.join.Action.the-variants.{Nothing as NoAction, Whole, Store, Complete}
+use Rattle.reassembly.specs.Unit.{carried}
+use Rattle.reassembly.specs.Join.{joinOf}
+use Rattle.receiver.specs.declared.answer.Memory.the-variants.{Packet as PacketMemory, Collecting}
+use Rattle.receiver.specs.declared.answer.Given.{Given}
+use Rattle.receiver.specs.declared.state.Give.{Give}
+use Rattle.receiver.specs.declared.state.Give.the-variants.{Nothing, One, Many}
+use Rattle.receiver.specs.declared.state.Queue.{Queue}
+use Rattle.receiver.specs.declared.packet.Located.{Located}
+use Rattle.receiver.specs.declared.packet.Arrived.{Arrived}
+use Rattle.receiver.specs.declared.packet.Arrived.the-variants.{Silent, Noted, Good}
+use Rattle.receiver.specs.declared.packet.JoinedPacket.{JoinedPacket}
+
+-- an MMTP packet that stands from `start` to `end`
+abbrev pub readBy : Reading → ℕ → ℕ → Arrived
+readBy Unwatched start end = Silent
+readBy BadHeader start end = Noted 51 0
+readBy (BadPayload id) start end = Noted 52 id
+readBy (GoodPacket p) start end = Good (record { packet = p; start = start; end = end })
+
+abbrev pub flowBy : Flow → Config → List ℕ → ℕ → ℕ → Arrived
+flowBy OtherFlow c b start end = Silent
+flowBy Malformed c b start end = Noted 50 0
+flowBy (Mmtp n) c b start end = readBy (readingOf (drop n b) (c .watch)) (start + n) end
+
+-- the TLV packet that stands from `start` to `end` in packet memory
+unfoldable pub arrivedAt : Config → List ℕ → ℕ → ℕ → Arrived
+arrivedAt c p start end = let b = partOf p start (end - start) in flowBy (flowOf b (c .cid)) c b start end
+
+-- the bytes of an MMTP packet
+abbrev pub bytesAt : Located → List ℕ → List ℕ
+bytesAt l p = partOf p (l .start) (l .end - l .start)
+
+abbrev pub Unit₀ : Type 0
+Unit₀ = Prim.Unit {0}
+
+abbrev pub blankUnit : DataUnit
+blankUnit = record { fields = noFields; start = 0; end = 0 }
+
+abbrev pub unitOr : Step → DataUnit
+unitOr (Unit u) = u
+unitOr NoUnit = blankUnit
+unitOr End = blankUnit
+
+-- the data unit of a packet that is not aggregated
+unfoldable pub firstUnit : List ℕ → Payload → DataUnit
+firstUnit m y = cond (y .aggregated) blankUnit (unitOr (singleAt m (y .start) (y .kind)))
+
+abbrev pub unitLen : DataUnit → ℕ
+unitLen u = u .end - u .start
+
+abbrev pub pieceFrom : Packet → DataUnit → Piece
+pieceFrom k u =
+    record {
+      unit = carried k (u .fields);
+      indicator = k .payload .indicator;
+      counter = k .payload .counter;
+      len = unitLen u;
+    }
+
+-- "id k (from 0) collects from k × R": the piece's bytes, where the action says
+unfoldable pub collected : Action → List ℕ → ℕ → List ℕ → DataUnit → List ℕ
+collected NoAction c base m u = c
+collected Whole c base m u = c
+collected (Store at) c base m u = pasted c (base + at) (drop (u .start) m) (unitLen u)
+collected (Complete at) c base m u = pasted c (base + at) (drop (u .start) m) (unitLen u)
+
+-- the piece lies in the packet, and fits where it is collected
+abbrev pub Room : Action → ℕ → ℕ → ℕ → DataUnit → Type 0
+Room NoAction c base m u = Unit₀
+Room Whole c base m u = Unit₀
+Room (Store at) c base m u = (u .start ≤ u .end) × (u .end ≤ m) × (base + at + unitLen u ≤ c)
+Room (Complete at) c base m u = (u .start ≤ u .end) × (u .end ≤ m) × (base + at + unitLen u ≤ c)
+
+-- a joined unit's length is a number
+abbrev pub Reach : Action → DataUnit → Type 0
+Reach NoAction u = Unit₀
+Reach Whole u = Unit₀
+Reach (Store at) u = Unit₀
+Reach (Complete at) u = at + unitLen u < 18446744073709551616
+
+-- a whole unit stands in packet memory
+abbrev pub wholeGiven : Located → DataUnit → Given
+wholeGiven l u =
+    record {
+      unit = carried (l .packet) (u .fields);
+      place = record { memory = PacketMemory; start = l .start + u .start; len = unitLen u };
+    }
+
+-- a joined unit stands in collecting memory
+abbrev pub joinedGiven : Joined → ℕ → ℕ → Given
+joinedGiven j base len =
+    record { unit = j .channel .current .unit; place = record { memory = Collecting; start = base; len = len } }
+
+abbrev pub wholesOf : Bool → Located → DataUnit → Give
+wholesOf true l u = Many (record { packet = l .packet; start = l .start; end = l .end; at = l .packet .payload .start })
+wholesOf false l u = One (wholeGiven l u)
+
+unfoldable pub giveOf : Action → Joined → Located → ℕ → DataUnit → Give
+giveOf NoAction j l base u = Nothing
+giveOf Whole j l base u = wholesOf (l .packet .payload .aggregated) l u
+giveOf (Store at) j l base u = Nothing
+giveOf (Complete at) j l base u = One (joinedGiven j base (at + unitLen u))
+
+abbrev pub queueOf : Joined → Located → ℕ → DataUnit → Queue
+queueOf j l base u =
+    record { note = j .note; over = j .over; «packet_id» = l .packet .«packet_id»; give = giveOf (j .action) j l base u }
+
+-- where the packet_id collects
+abbrev pub baseOf : Located → ℕ → ℕ
+baseOf l limit = l .packet .place * limit
+
+abbrev pub unitIn : Located → List ℕ → DataUnit
+unitIn l p = firstUnit (bytesAt l p) (l .packet .payload)
+
+abbrev pub stepOf : Channel → Located → List ℕ → ℕ → Joined
+stepOf ch l p limit = joinOf ch (pieceFrom (l .packet) (unitIn l p)) limit
+
+-- the state of the packet_id, what next has yet to give, and collecting memory
+abbrev pub joinedBy : Joined → Located → List ℕ → DataUnit → List ℕ → ℕ → JoinedPacket × List ℕ
+joinedBy j l m u c base =
+    (record { channel = j .channel; queue = queueOf j l base u }, collected (j .action) c base m u)
+
+unfoldable pub joinedOf : Channel → Located → List ℕ → List ℕ → ℕ → JoinedPacket × List ℕ
+joinedOf ch l p c limit = joinedBy (stepOf ch l p limit) l (bytesAt l p) (unitIn l p) c (baseOf l limit)

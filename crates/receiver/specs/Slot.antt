@@ -1,0 +1,297 @@
+-- Slot, with its data or lost: refusals 20 to 23, packet memory, and what next then has to read.
+use Prim.Native.Nat.{ℕ, _+_, _*_, _/_, _<_, _≤_}
+use mathlib.Core.Path.{_≡_, refl}
+use mathlib.Core.Bool.{Bool, true, false, cond, _||_, not}
+use mathlib.Core.List.{List}
+use mathlib.Core.Logic.{_↔_}
+use native.Mathlib.Nat.{div-lt-iff-lt-mul}
+use native.Mathlib.Omega.{arith}
+use borrow.Author.Tests.{lt-ltb, le-ltb, le-leb, lt-leb, eq-eqb, ne-eqb, ltb-true, ltb-false, leb-false, eqb-true, not-false}
+use lib.ListN.{length, getD, drop}
+use lib.Dec.{eqb, ltb, leb}
+use Rattle.wire.specs.Memory.{partOf, pasted}
+use Rattle.tmcc.specs.declared.layout.Pointers.{Pointers}
+use Rattle.tlv.specs.declared.held.Continuation.{Continuation}
+use Rattle.tlv.specs.declared.held.Continuation.the-variants.{TooLong, Misfit, Ends, GoesOn}
+use Rattle.tlv.specs.Slot.{none, sound}
+use Rattle.tlv.specs.Held.{continuationOf}
+use Rattle.reassembly.specs.declared.config.Config.{Config}
+use Rattle.receiver.specs.declared.state.Held.{Held}
+use Rattle.receiver.specs.declared.state.Cursor.{Cursor}
+use Rattle.receiver.specs.declared.state.State.{State}
+use Rattle.receiver.specs.declared.answer.Called.{Called}
+use Rattle.receiver.specs.Tests.{passed, neither}
+use Rattle.receiver.specs.State.{searching, holding, noted, withFrame, withOwed, withSlot, refused, accepted}
+use Rattle.receiver.specs.Frame.{lossOf}
+
+-- "packet memory under 21,433 bytes or collecting memory under n × R", by their lengths
+unfoldable pub shortBy : Config → ℕ → ℕ → Bool
+shortBy c packet collecting = ltb packet 21433 || ltb collecting (c .watch .n * c .limit)
+
+-- "20 none due; 21 next owed; 22"; 0 for none
+unfoldable pub refusalOf : State → ℕ → ℕ → ℕ
+refusalOf st packet collecting =
+    cond (leb 120 (st .frame .at)) 20 (cond (st .owed) 21 (cond (shortBy (st .config) packet collecting) 22 0))
+
+-- the slot is counted, and next is owed
+unfoldable pub counted : State → State
+counted st = withOwed (withFrame st (record { layout = st .frame .layout; at = st .frame .at + 1 })) true
+
+-- the slot stands in packet memory from byte 16,384
+abbrev pub slotArea : ℕ
+slotArea = 16384
+
+-- what next reads: the slot's note, the packet that it completed, then the packets from the top pointer on
+unfoldable pub cursorFrom : ℕ → ℕ → ℕ → ℕ → Cursor
+cursorFrom note packet top l =
+    cond (eqb top none) (record { note = note; packet = packet; reading = false; at = 0; end = 0 })
+    (record { note = note; packet = packet; reading = true; at = slotArea + top; end = slotArea + l })
+
+abbrev pub readingFrom : State → ℕ → ℕ → ℕ → ℕ → State
+readingFrom st note packet top l = withSlot st searching (cursorFrom note packet top l)
+
+-- the held bytes
+abbrev pub heldBytes : Held → List ℕ → List ℕ
+heldBytes h p = partOf p (h .start) (h .len)
+
+abbrev pub heldLen : Held → List ℕ → ℕ
+heldLen h p = length (heldBytes h p)
+
+-- the end of the packet that the slot completes, from byte 0; 0 where nothing was held
+abbrev pub packetEnd : ℕ → ℕ → ℕ
+packetEnd n end = cond (eqb n 0) 0 (n + end)
+
+-- a sound slot comes to `n` held bytes
+unfoldable pub resumedState : Continuation → State → ℕ → ℕ → ℕ → State
+resumedState TooLong st n top l = readingFrom st 43 0 top l
+resumedState Misfit st n top l = readingFrom st 42 0 top l
+resumedState (Ends e) st n top l =
+    withSlot st (cond (eqb top none) (holding 0 0) searching) (cursorFrom 0 (packetEnd n e) top l)
+resumedState GoesOn st n top l = withSlot st (holding 0 (n + l)) (noted 0)
+
+-- "its bytes so far come to stand from byte 0 and the slot's continuing bytes follow them"
+unfoldable pub movedMem : Held → List ℕ → List ℕ
+movedMem h p = pasted p 0 (drop (h .start) p) (heldLen h p)
+
+unfoldable pub continuedMem : Held → List ℕ → List ℕ → ℕ → List ℕ
+continuedMem h p d k = pasted (movedMem h p) (heldLen h p) d k
+
+unfoldable pub resumedMem : Continuation → Held → List ℕ → List ℕ → List ℕ
+resumedMem TooLong h p d = p
+resumedMem Misfit h p d = p
+resumedMem (Ends e) h p d = continuedMem h p d e
+resumedMem GoesOn h p d = continuedMem h p d (length d)
+
+-- "then the slot, sound or not, is copied from byte 16,384"
+unfoldable pub copied : List ℕ → List ℕ → List ℕ
+copied p d = pasted p slotArea d (length d)
+
+-- the state, and packet memory
+abbrev pub Taken : Type 0
+Taken = State × List ℕ
+
+abbrev pub resumedBy : Continuation → State → List ℕ → List ℕ → Pointers → Taken
+resumedBy k st p d t = (resumedState k st (heldLen (st .held) p) (t .0) (length d), resumedMem k (st .held) p d)
+
+unfoldable pub resumedOf : State → List ℕ → List ℕ → Pointers → Taken
+resumedOf st p d t = resumedBy (continuationOf (heldBytes (st .held) p) d (t .0) (t .1)) st p d t
+
+-- an own live slot by whether it is sound and whether bytes are held, before it is copied
+abbrev pub ownBy : Bool → Bool → State → List ℕ → List ℕ → Pointers → Taken
+ownBy false on st p d t = (withSlot st searching (noted 41), p)
+ownBy true false st p d t = (readingFrom st 0 0 (t .0) (length d), p)
+ownBy true true st p d t = resumedOf st p d t
+
+unfoldable pub ownOf : State → List ℕ → List ℕ → Pointers → Taken
+ownOf st p d t =
+    let r = ownBy (sound d (t .0) (t .1)) (st .held .on) st p d t in
+    (r .0, copied (r .1) d)
+
+-- the slot that is due: its data length, pointers, and whether it is an own live one
+abbrev pub dueLength : State → ℕ
+dueLength st = getD (st .frame .layout .lengths) (st .frame .at) 0
+
+abbrev pub duePointers : State → Pointers
+duePointers st = getD (st .frame .layout .pointers) (st .frame .at) (record { 0 = 0; 1 = 0 })
+
+abbrev pub dueOwn : State → Bool
+dueOwn st = getD (st .frame .layout .own) (st .frame .at) false
+
+-- "23 wrong length"; no live slot is longer than 5,049 bytes
+unfoldable pub wrongLength : ℕ → ℕ → Bool
+wrongLength due l = ltb 5049 l || not (eqb l due)
+
+abbrev pub Out : Type 0
+Out = Called × List ℕ
+
+-- "A dummy slot ..; it, or another stream's slot, given or lost, is only counted"
+abbrev pub slotTaken : Bool → State → List ℕ → List ℕ → Pointers → Out
+slotTaken false st p d t = (accepted (counted st), p)
+slotTaken true st p d t = let r = ownOf (counted st) p d t in (accepted (r .0), r .1)
+
+unfoldable pub slotOf : State → List ℕ → List ℕ → List ℕ → Out
+slotOf st p c d =
+    let r = refusalOf st (length p) (length c) in
+    cond (eqb r 0)
+    (cond (wrongLength (dueLength st) (length d)) (refused 23 st, p) (slotTaken (dueOwn st) st p d (duePointers st)))
+    (refused r st, p)
+
+abbrev pub lossTaken : Bool → State → State
+lossTaken false st = counted st
+lossTaken true st = lossOf (counted st)
+
+unfoldable pub lostSlotOf : State → ℕ → ℕ → Called
+lostSlotOf st packet collecting =
+    let r = refusalOf st packet collecting in
+    cond (eqb r 0) (accepted (lossTaken (dueOwn st) st)) (refused r st)
+
+-- memories that are long enough, or not
+module _ (c : Config) (packet collecting : ℕ) where
+  pub packet-short : packet < 21433 → shortBy c packet collecting ≡ true
+  unfolding shortBy
+  packet-short h = rw (lt-ltb _ _ h)
+
+  module _ (h : 21433 ≤ packet) where
+    pub collecting-short : collecting < c .watch .n * c .limit → shortBy c packet collecting ≡ true
+    unfolding shortBy
+    collecting-short l = rw (le-ltb _ _ h, lt-ltb _ _ l)
+
+    pub long-enough : c .watch .n * c .limit ≤ collecting → shortBy c packet collecting ≡ false
+    unfolding shortBy
+    long-enough l = rw (le-ltb _ _ h, le-ltb _ _ l)
+
+    -- without a product, which may be too large for the machine
+    pub short-by-quotient : (c .limit ≡ 0 → ⊥) → shortBy c packet collecting ≡ ltb (collecting / c .limit) (c .watch .n)
+    unfolding shortBy
+    short-by-quotient z =
+        rw (le-ltb _ _ h) (go (ltb (collecting / c .limit) (c .watch .n)) refl (div-lt-iff-lt-mul (omega arith)))
+      where
+        go : (b : Bool) → ltb (collecting / c .limit) (c .watch .n) ≡ b
+            → ((collecting / c .limit < c .watch .n) ↔ (collecting < c .watch .n * c .limit))
+            → ltb collecting (c .watch .n * c .limit) ≡ b
+        go true t d = lt-ltb _ _ (d .0 (ltb-true _ _ t))
+        go false t d =
+            let q : collecting < c .watch .n * c .limit → ⊥ =
+            λ l. omega (arith, d .1 l, ltb-false (collecting / c .limit) (c .watch .n) t) in
+            le-ltb collecting (c .watch .n * c .limit) (omega arith)
+
+-- what a state and memories that take the slot have
+pub record Ready (st : State) (packet collecting : ℕ) : Type 0 where
+  pub due : st .frame .at < 120
+  pub free : st .owed ≡ false
+  pub packets : 21433 ≤ packet
+  pub collects : st .config .watch .n * st .config .limit ≤ collecting
+
+module _ (st : State) (packet collecting : ℕ) where
+  pub refused-none-due : 120 ≤ st .frame .at → refusalOf st packet collecting ≡ 20
+  unfolding refusalOf
+  refused-none-due h = rw (le-leb _ _ h)
+
+  module _ (h : st .frame .at < 120) where
+    pub refused-owed : st .owed ≡ true → refusalOf st packet collecting ≡ 21
+    unfolding refusalOf
+    refused-owed e = rw (lt-leb _ _ h, e)
+
+    pub refused-short : st .owed ≡ false → shortBy (st .config) packet collecting ≡ true → refusalOf st packet collecting ≡ 22
+    unfolding refusalOf
+    refused-short e f = rw (lt-leb _ _ h, e, f)
+
+    pub refused-none : st .owed ≡ false → shortBy (st .config) packet collecting ≡ false → refusalOf st packet collecting ≡ 0
+    unfolding refusalOf
+    refused-none e f = rw (lt-leb _ _ h, e, f)
+
+  pub accepts : Ready st packet collecting → refusalOf st packet collecting ≡ 0
+  accepts r = refused-none (r .due) (r .free) (long-enough (st .config) packet collecting (r .packets) (r .collects))
+
+  pub ready : refusalOf st packet collecting ≡ 0 → Ready st packet collecting
+  unfolding refusalOf shortBy
+  ready e =
+      let c = st .config in
+      let p = passed (leb 120 (st .frame .at)) 20 _ (λ z. omega arith) e in
+      let q = passed (st .owed) 21 _ (λ z. omega arith) (p .1) in
+      let r = passed (shortBy c packet collecting) 22 0 (λ z. omega arith) (q .1) in
+      let s = neither (ltb packet 21433) (ltb collecting (c .watch .n * c .limit)) (r .0) in
+      record {
+        due = leb-false _ _ (p .0);
+        free = q .0;
+        packets = ltb-false _ _ (s .0);
+        collects = ltb-false _ _ (s .1);
+      }
+
+-- a length that is the slot's, and one that isn't
+module _ (due l : ℕ) where
+  pub length-above : 5049 < l → wrongLength due l ≡ true
+  unfolding wrongLength
+  length-above h = rw (lt-ltb _ _ h)
+
+  pub length-other : l ≤ 5049 → wrongLength due l ≡ not (eqb l due)
+  unfolding wrongLength
+  length-other h = rw (le-ltb _ _ h)
+
+  pub length-right : l ≤ 5049 → l ≡ due → wrongLength due l ≡ false
+  unfolding wrongLength
+  length-right h e = rw (le-ltb _ _ h, eq-eqb _ _ e)
+
+  pub right-length : wrongLength due l ≡ false → (l ≤ 5049) × (l ≡ due)
+  unfolding wrongLength
+  right-length e =
+      let p = neither (ltb 5049 l) (not (eqb l due)) e in
+      (ltb-false _ _ (p .0), eqb-true _ _ (not-false _ (p .1)))
+
+-- an own live slot: unsound, while searching, and with bytes held
+module _ (st : State) (p d : List ℕ) (t : Pointers) where
+  pub own-unsound : sound d (t .0) (t .1) ≡ false → ownOf st p d t ≡ (withSlot st searching (noted 41), copied p d)
+  unfolding ownOf
+  own-unsound s = rw s
+
+  module _ (s : sound d (t .0) (t .1) ≡ true) where
+    pub own-searching : st .held .on ≡ false → ownOf st p d t ≡ (readingFrom st 0 0 (t .0) (length d), copied p d)
+    unfolding ownOf
+    own-searching o = rw (s, o)
+
+    pub own-held : st .held .on ≡ true → ownOf st p d t ≡ (resumedOf st p d t .0, copied (resumedOf st p d t .1) d)
+    unfolding ownOf
+    own-held o = rw (s, o)
+
+  pub resumed : (k : Continuation) → continuationOf (heldBytes (st .held) p) d (t .0) (t .1) ≡ k
+      → resumedOf st p d t ≡ resumedBy k st p d t
+  unfolding resumedOf
+  resumed k e = rw e
+
+-- the cases of slot
+module _ (st : State) (p c d : List ℕ) where
+  pub slot-refused : (refusalOf st (length p) (length c) ≡ 0 → ⊥)
+      → slotOf st p c d ≡ (refused (refusalOf st (length p) (length c)) st, p)
+  unfolding slotOf
+  slot-refused n = rw (ne-eqb _ _ n)
+
+  module _ (z : refusalOf st (length p) (length c) ≡ 0) where
+    pub slot-wrong-length : wrongLength (dueLength st) (length d) ≡ true → slotOf st p c d ≡ (refused 23 st, p)
+    unfolding slotOf
+    slot-wrong-length w = rw (eq-eqb _ _ z, w)
+
+    module _ (w : wrongLength (dueLength st) (length d) ≡ false) where
+      pub slot-not-own : dueOwn st ≡ false → slotOf st p c d ≡ (accepted (counted st), p)
+      unfolding slotOf
+      slot-not-own o = rw (eq-eqb _ _ z, w, o)
+
+      pub slot-own : dueOwn st ≡ true
+          → slotOf st p c d ≡ (accepted (ownOf (counted st) p d (duePointers st) .0), ownOf (counted st) p d (duePointers st) .1)
+      unfolding slotOf
+      slot-own o = rw (eq-eqb _ _ z, w, o)
+
+-- and of a lost one
+module _ (st : State) (packet collecting : ℕ) where
+  pub lost-refused : (refusalOf st packet collecting ≡ 0 → ⊥)
+      → lostSlotOf st packet collecting ≡ refused (refusalOf st packet collecting) st
+  unfolding lostSlotOf
+  lost-refused n = rw (ne-eqb _ _ n)
+
+  module _ (z : refusalOf st packet collecting ≡ 0) where
+    pub lost-not-own : dueOwn st ≡ false → lostSlotOf st packet collecting ≡ accepted (counted st)
+    unfolding lostSlotOf
+    lost-not-own o = rw (eq-eqb _ _ z, o)
+
+    pub lost-own : dueOwn st ≡ true → lostSlotOf st packet collecting ≡ accepted (lossOf (counted st))
+    unfolding lostSlotOf
+    lost-own o = rw (eq-eqb _ _ z, o)

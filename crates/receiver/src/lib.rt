@@ -1,0 +1,10 @@
+// The receiver: start, frame, lost frame, slot, next and show.
+pub mod answer;
+pub mod frame;
+pub mod next;
+pub mod packet;
+pub mod queue;
+pub mod show;
+pub mod slot;
+pub mod start;
+pub mod state;

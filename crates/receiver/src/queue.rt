@@ -1,0 +1,93 @@
+// What next has yet to give of a packet, one event at a time.
+ghost use mathlib.Core.Path.{_≡_};
+ghost use Rattle.receiver.specs.Queue.{giveBy, takenOf};
+use crate::answer::Event;
+use crate::packet::Located;
+use crate::packet::whole;
+use crate::state::Aggregate;
+use crate::state::Give;
+use crate::state::Queue;
+use mmtp::unit::Step;
+
+// An event, Nothing where the queue is empty, and the queue after it.
+pub struct Taken {
+    pub event: Event,
+    pub queue: Queue,
+}
+
+// The next unit of an aggregate.
+fn take_many(q: Queue, a: Aggregate, memory: &[u8]) -> Taken
+    ensures { λ r. ⌜ r ≡ giveBy (Give.Many a) q (now (memory .entry)) ⌝ }
+{
+    let packet = a.packet;
+    let payload = packet.payload;
+    let start = a.start;
+    let end = a.end;
+    let len = if end < start { 0 } else { end - start };
+    let bytes = wire::memory::part(memory, start, len);
+    let step = mmtp::unit::unit_at(bytes, a.at, payload.kind, payload.wide);
+    let Step::Unit(u) = step else {
+        let queue = Queue {
+            give: Give::Nothing,
+            ..q
+        };
+        return Taken {
+            event: Event::Nothing,
+            queue,
+        };
+    };
+    let given = whole(Located { packet, start, end }, u);
+    let rest = Aggregate { at: u.end, ..a };
+    let queue = Queue {
+        give: Give::Many(rest),
+        ..q
+    };
+    Taken {
+        event: Event::Unit(given),
+        queue,
+    }
+}
+
+// The next unit.
+fn take_unit(q: Queue, memory: &[u8]) -> Taken
+    ensures { λ r. ⌜ r ≡ giveBy (q .give) q (now (memory .entry)) ⌝ }
+{
+    let give = q.give;
+    match give {
+        Give::Nothing => Taken {
+            event: Event::Nothing,
+            queue: q,
+        },
+        Give::One(given) => {
+            let queue = Queue {
+                give: Give::Nothing,
+                ..q
+            };
+            Taken {
+                event: Event::Unit(given),
+                queue,
+            }
+        }
+        Give::Many(a) => take_many(q, a, memory),
+    }
+}
+
+pub fn take(q: Queue, memory: &[u8]) -> Taken
+    ensures { λ r. ⌜ r ≡ takenOf q (now (memory .entry)) ⌝ }
+{
+    if q.note != 0 {
+        let queue = Queue { note: 0, ..q };
+        return Taken {
+            event: Event::Note(q.note, q.packet_id),
+            queue,
+        };
+    }
+    if q.over {
+        let queue = Queue { over: false, ..q };
+        return Taken {
+            event: Event::Note(64, q.packet_id),
+            queue,
+        };
+    }
+    take_unit(q, memory)
+}
