@@ -1,8 +1,9 @@
 -- A TLV packet in packet memory: read, and joined to the state of its packet_id over collecting memory.
 use Prim.Native.Nat.{ℕ, _+_, _-_, _*_, _≤_, _<_}
 use mathlib.Core.Bool.{Bool, true, false, cond}
+use mathlib.Core.Path.{_≡_}
 use mathlib.Core.List.{List}
-use lib.ListN.{length, drop}
+use lib.ListN.{drop}
 use Rattle.wire.specs.Memory.{partOf, pasted}
 use Rattle.mmtp.specs.declared.flow.Flow.{Flow}
 use Rattle.mmtp.specs.declared.flow.Flow.the-variants.{Silent as OtherFlow, Malformed, Mmtp}
@@ -81,19 +82,28 @@ pieceFrom k u =
       len = unitLen u;
     }
 
+-- a data unit's bytes, in collecting memory from `at`
+abbrev pub stored : List ℕ → ℕ → List ℕ → DataUnit → List ℕ
+stored c at m u = pasted c at (drop (u .start) m) (unitLen u)
+
 -- "id k (from 0) collects from k × R": the piece's bytes, where the action says
 unfoldable pub collected : Action → List ℕ → ℕ → List ℕ → DataUnit → List ℕ
 collected NoAction c base m u = c
 collected Whole c base m u = c
-collected (Store at) c base m u = pasted c (base + at) (drop (u .start) m) (unitLen u)
-collected (Complete at) c base m u = pasted c (base + at) (drop (u .start) m) (unitLen u)
+collected (Store at) c base m u = stored c (base + at) m u
+collected (Complete at) c base m u = stored c (base + at) m u
 
--- the piece lies in the packet, and fits where it is collected
+-- the data unit lies in the packet, and fits where it is stored
+pub record Stored (c at m : ℕ) (u : DataUnit) : Type 0 where
+  pub ordered : u .start ≤ u .end
+  pub within : u .end ≤ m
+  pub fits : at + unitLen u ≤ c
+
 abbrev pub Room : Action → ℕ → ℕ → ℕ → DataUnit → Type 0
 Room NoAction c base m u = Unit₀
 Room Whole c base m u = Unit₀
-Room (Store at) c base m u = (u .start ≤ u .end) × (u .end ≤ m) × (base + at + unitLen u ≤ c)
-Room (Complete at) c base m u = (u .start ≤ u .end) × (u .end ≤ m) × (base + at + unitLen u ≤ c)
+Room (Store at) c base m u = Stored c (base + at) m u
+Room (Complete at) c base m u = Stored c (base + at) m u
 
 -- a joined unit's length is a number
 abbrev pub Reach : Action → DataUnit → Type 0
@@ -146,3 +156,42 @@ joinedBy j l m u c base =
 
 unfoldable pub joinedOf : Channel → Located → List ℕ → List ℕ → ℕ → JoinedPacket × List ℕ
 joinedOf ch l p c limit = joinedBy (stepOf ch l p limit) l (bytesAt l p) (unitIn l p) c (baseOf l limit)
+
+-- the place of the packet's packet_id in the watch list; 0 where there is no packet to join
+abbrev pub placeOf : Arrived → ℕ
+placeOf Silent = 0
+placeOf (Noted n id) = 0
+placeOf (Good l) = l .packet .place
+
+-- there is room where the packet's packet_id collects
+abbrev pub Fits : Arrived → ℕ → ℕ → Type 0
+Fits Silent limit n = Unit₀
+Fits (Noted m id) limit n = Unit₀
+Fits (Good l) limit n = l .packet .place * limit + limit ≤ n
+
+-- what next has yet to give of a packet with note 50, 51 or 52
+abbrev pub noteQueue : ℕ → ℕ → Queue
+noteQueue n id = record { note = n; over = false; «packet_id» = id; give = Nothing }
+
+-- a packet comes to the state of its packet_id, and to an empty queue
+unfoldable pub receivedOf : Arrived → Channel → Queue → List ℕ → List ℕ → ℕ → JoinedPacket × List ℕ
+receivedOf Silent ch q p c limit = (record { channel = ch; queue = q }, c)
+receivedOf (Noted n id) ch q p c limit = (record { channel = ch; queue = noteQueue n id }, c)
+receivedOf (Good l) ch q p c limit = joinedOf ch l p c limit
+
+-- Laws.
+
+-- a TLV packet, by its flow
+module _ (c : Config) (p : List ℕ) (start end : ℕ) where
+  pub arrived-silent : flowOf (partOf p start (end - start)) (c .cid) ≡ OtherFlow → arrivedAt c p start end ≡ Silent
+  unfolding arrivedAt
+  arrived-silent e = rw e
+
+  pub arrived-malformed : flowOf (partOf p start (end - start)) (c .cid) ≡ Malformed → arrivedAt c p start end ≡ Noted 50 0
+  unfolding arrivedAt
+  arrived-malformed e = rw e
+
+  pub arrived-mmtp : (n : ℕ) → flowOf (partOf p start (end - start)) (c .cid) ≡ Mmtp n
+      → arrivedAt c p start end ≡ readBy (readingOf (drop n (partOf p start (end - start))) (c .watch)) (start + n) end
+  unfolding arrivedAt
+  arrived-mmtp n e = rw e

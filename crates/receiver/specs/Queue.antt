@@ -1,15 +1,16 @@
 -- What next has yet to give of a packet, one event at a time: its note, note 64, its units.
-use Prim.Native.Nat.{ℕ, _+_, _-_}
-use mathlib.Core.Bool.{Bool, true, false, cond}
+use Prim.Native.Nat.{ℕ, _-_}
+use mathlib.Core.Path.{_≡_, _∙_}
+use mathlib.Core.Bool.{true, false, cond}
 use mathlib.Core.List.{List}
+use borrow.Author.Tests.{eq-eqb, ne-eqb}
 use lib.Dec.{eqb}
+use Rattle.receiver.specs.Choice.{chosen, chosen-not}
 use Rattle.wire.specs.Memory.{partOf}
-use Rattle.mmtp.specs.declared.unit.DataUnit.{DataUnit}
 use Rattle.mmtp.specs.declared.unit.Step.{Step}
 use Rattle.mmtp.specs.declared.unit.Step.the-variants.{Unit as UnitAt, Malformed, End}
 use Rattle.mmtp.specs.Unit.{unitAt}
-use Rattle.receiver.specs.declared.answer.Event.{Event}
-use Rattle.receiver.specs.declared.answer.Event.the-variants.{Nothing, Note, Unit, Refused}
+use Rattle.receiver.specs.declared.answer.Event.the-variants.{Nothing, Note, Unit}
 use Rattle.receiver.specs.declared.state.Give.{Give}
 use Rattle.receiver.specs.declared.state.Give.the-variants.{Nothing as NoUnit, One, Many}
 use Rattle.receiver.specs.declared.state.Aggregate.{Aggregate}
@@ -20,6 +21,10 @@ use Rattle.receiver.specs.Packet.{wholeGiven}
 abbrev pub giving : Queue → Give → Queue
 giving q g = record { note = q .note; over = q .over; «packet_id» = q .«packet_id»; give = g }
 
+-- the queue gives no more
+abbrev pub finished : Queue → Taken
+finished q = record { event = Nothing; queue = giving q NoUnit }
+
 -- the next unit of an aggregate
 abbrev pub manyBy : Step → Aggregate → Queue → Taken
 manyBy (UnitAt u) a q =
@@ -27,8 +32,8 @@ manyBy (UnitAt u) a q =
       event = Unit (wholeGiven (record { packet = a .packet; start = a .start; end = a .end }) u);
       queue = giving q (Many (record { packet = a .packet; start = a .start; end = a .end; at = u .end }));
     }
-manyBy Malformed a q = record { event = Nothing; queue = giving q NoUnit }
-manyBy End a q = record { event = Nothing; queue = giving q NoUnit }
+manyBy Malformed a q = finished q
+manyBy End a q = finished q
 
 abbrev pub giveBy : Give → Queue → List ℕ → Taken
 giveBy NoUnit q p = record { event = Nothing; queue = q }
@@ -47,3 +52,28 @@ takenOf q p =
       event = Note (q .note) (q .«packet_id»);
       queue = record { note = 0; over = q .over; «packet_id» = q .«packet_id»; give = q .give };
     })
+
+-- Laws.
+
+module _ (q : Queue) (p : List ℕ) where
+  pub taken-note : (q .note ≡ 0 → ⊥)
+      → takenOf q p
+      ≡ record {
+        event = Note (q .note) (q .«packet_id»);
+        queue = record { note = 0; over = q .over; «packet_id» = q .«packet_id»; give = q .give };
+      }
+  unfolding takenOf
+  taken-note h = chosen-not (eqb (q .note) 0) _ _ (ne-eqb (q .note) 0 h)
+
+  pub taken-over : q .note ≡ 0 → q .over ≡ true
+      → takenOf q p
+      ≡ record {
+        event = Note 64 (q .«packet_id»);
+        queue = record { note = 0; over = false; «packet_id» = q .«packet_id»; give = q .give };
+      }
+  unfolding takenOf
+  taken-over h o = chosen (eqb (q .note) 0) _ _ (eq-eqb (q .note) 0 h) ∙ chosen (q .over) _ _ o
+
+  pub taken-give : q .note ≡ 0 → q .over ≡ false → takenOf q p ≡ giveBy (q .give) q p
+  unfolding takenOf
+  taken-give h o = chosen (eqb (q .note) 0) _ _ (eq-eqb (q .note) 0 h) ∙ chosen-not (q .over) _ _ o

@@ -1,26 +1,28 @@
 // Next: it reads on, one event a call, until nothing waits.
 ghost use mathlib.Core.Path.{_≡_};
-ghost use Prim.Native.Nat.{suc, _*_, _≤_};
-ghost use lib.ListN.{length};
-ghost use Rattle.receiver.specs.Next.{tailAdvanced, slotAdvanced, advancedOf, packetOf, isEvent, left, readOn, nextOf};
+ghost use Prim.Native.Nat.{_*_, _≤_};
+ghost use lib.ListN.{length, drop};
+ghost use Rattle.tlv.specs.Packet.{tooLong};
+ghost use Rattle.receiver.specs.State.{holding};
+ghost use Rattle.receiver.specs.Next.{tailAdvanced, slotAdvanced, advancedOf, isEvent, turnOf, readAll, nextOf};
 use crate::answer::Answer;
 use crate::answer::Event;
-use crate::packet::Arrived;
 use crate::packet::arrive;
-use crate::packet::join;
+use crate::packet::distance;
+use crate::packet::place;
+use crate::packet::receive;
 use crate::queue::take;
 use crate::slot::is_short;
 use crate::state::Cursor;
-use crate::state::Give;
 use crate::state::Held;
 use crate::state::Queue;
 use crate::state::State;
 use tlv::packet::Next;
 
-// What the cursor comes to.
+// What next comes to.
 pub enum Found {
-    // A note of the slot.
-    Note(u8),
+    // What a packet has yet to give, or a note of the slot.
+    Event(Event),
     // A TLV packet, from where to where in packet memory.
     Packet(usize, usize),
     // A tail that is held, where it starts and how long it is.
@@ -28,10 +30,27 @@ pub enum Found {
     Done,
 }
 
-// Where the cursor comes to, and the cursor past it.
+// What the cursor comes to, and the cursor past it.
 pub struct Advanced {
     pub found: Found,
     pub cursor: Cursor,
+}
+
+// What next comes to, and the queue and the cursor past it.
+pub struct Turn {
+    pub found: Found,
+    pub queue: Queue,
+    pub cursor: Cursor,
+}
+
+// Whether the total of the packet at `at` is known and above what is kept.
+fn is_too_long(s: &[u8], at: usize) -> bool
+    ensures { λ r. ⌜ r ≡ tooLong (drop at (now (s .entry))) ⌝ }
+{
+    if s.len() < at {
+        return false;
+    }
+    tlv::packet::too_long(s, at)
 }
 
 // The tail of the slot: held, or note 43.
@@ -45,15 +64,13 @@ fn advance_tail(s: &[u8], at: usize, end: usize) -> Advanced
         at: 0,
         end: 0,
     };
-    if at <= s.len() {
-        if tlv::packet::too_long(s, at) {
-            return Advanced {
-                found: Found::Note(43),
-                cursor,
-            };
-        }
+    if is_too_long(s, at) {
+        return Advanced {
+            found: Found::Event(Event::Note(43, 0)),
+            cursor,
+        };
     }
-    let len = if end < at { 0 } else { end - at };
+    let len = distance(at, end);
     Advanced {
         found: Found::Tail(at, len),
         cursor,
@@ -86,7 +103,7 @@ fn advance(c: Cursor, memory: &[u8]) -> Advanced
     if c.note != 0 {
         let cursor = Cursor { note: 0, ..c };
         return Advanced {
-            found: Found::Note(c.note),
+            found: Found::Event(Event::Note(c.note, 0)),
             cursor,
         };
     }
@@ -117,90 +134,79 @@ fn is_event(event: Event) -> bool
     }
 }
 
-// A packet comes to the state, whose queue is empty.
-fn take_packet(st: State, memory: &[u8], collecting: &mut [u8], start: usize, end: usize) -> State
-    requires { ⌜ st .config .watch .n * st .config .limit ≤ length (now collecting) ⌝ }
-    ensures { λ r. ⌜ (r, now (collecting .exit)) ≡ packetOf st (now (memory .entry)) (now (collecting .entry)) start end ⌝ }
+// A tail is held.
+fn hold(start: usize, len: usize) -> Held
+    ensures { λ r. ⌜ r ≡ holding start len ⌝ }
 {
-    let config = st.config;
-    let arrived = arrive(config, memory, start, end);
-    match arrived {
-        Arrived::Silent => st,
-        Arrived::Noted(note, packet_id) => {
-            let queue = Queue {
-                note,
-                over: false,
-                packet_id,
-                give: Give::Nothing,
-            };
-            State { queue, ..st }
-        }
-        Arrived::Good(l) => {
-            let packet = l.packet;
-            let k = packet.place;
-            let channel = st.channels[k];
-            let j = join(channel, l, memory, collecting, config.limit);
-            let queue = j.queue;
-            let after = j.channel;
-            let mut next = State { queue, ..st };
-            next.channels[k] = after;
-            next
-        }
+    Held {
+        on: true,
+        start,
+        len,
+    }
+}
+
+// What the queue gives, or where it is empty what the cursor comes to.
+fn find(queue: Queue, cursor: Cursor, memory: &[u8]) -> Turn
+    ensures { λ r. ⌜ r ≡ turnOf queue cursor (now (memory .entry)) ⌝ }
+{
+    let taken = take(queue, memory);
+    let event = taken.event;
+    let rest = taken.queue;
+    if is_event(event) {
+        return Turn {
+            found: Found::Event(event),
+            queue: rest,
+            cursor,
+        };
+    }
+    let advanced = advance(cursor, memory);
+    let found = advanced.found;
+    let past = advanced.cursor;
+    Turn {
+        found,
+        queue: rest,
+        cursor: past,
     }
 }
 
 // Reads on until there is an event, or nothing waits.
 fn read_on(st: State, memory: &[u8], collecting: &mut [u8]) -> Answer
     requires { ⌜ st .config .watch .n * st .config .limit ≤ length (now collecting) ⌝ }
-    ensures { λ r. ⌜ (r, now (collecting .exit)) ≡ readOn (suc (left (st .cursor))) st (now (memory .entry)) (now (collecting .entry)) ⌝ }
+    ensures { λ r. ⌜ (r, now (collecting .exit)) ≡ readAll st (now (memory .entry)) (now (collecting .entry)) ⌝ }
 {
+    let config = st.config;
     let mut next = st;
     loop {
         let queue = next.queue;
-        let taken = take(queue, memory);
-        let event = taken.event;
-        let rest = taken.queue;
-        next = State {
-            queue: rest,
-            ..next
-        };
-        if is_event(event) {
-            return Answer { event, state: next };
-        }
         let cursor = next.cursor;
-        let advanced = advance(cursor, memory);
-        let past = advanced.cursor;
-        let found = advanced.found;
-        next = State {
-            cursor: past,
-            ..next
-        };
+        let turn = find(queue, cursor, memory);
+        let rest = turn.queue;
+        next.queue = rest;
+        let past = turn.cursor;
+        next.cursor = past;
+        let found = turn.found;
         match found {
-            Found::Note(n) => {
-                return Answer {
-                    event: Event::Note(n, 0),
-                    state: next,
-                };
+            Found::Event(event) => {
+                return Answer { event, state: next };
             }
             Found::Packet(start, end) => {
-                next = take_packet(next, memory, collecting, start, end);
+                let arrived = arrive(config, memory, start, end);
+                let k = place(arrived);
+                let channel = next.channels[k];
+                let j = receive(arrived, channel, rest, memory, collecting, config.limit);
+                let queue = j.queue;
+                next.queue = queue;
+                let after = j.channel;
+                next.channels[k] = after;
             }
             Found::Tail(start, len) => {
-                let held = Held {
-                    on: true,
-                    start,
-                    len,
-                };
-                next = State { held, ..next };
+                let held = hold(start, len);
+                next.held = held;
             }
             Found::Done => {
-                return Answer {
-                    event: Event::Nothing,
-                    state: State {
-                        owed: false,
-                        ..next
-                    },
-                };
+                next.owed = false;
+                let event = Event::Nothing;
+                return Answer { event, state: next };
             }
         }
     }

@@ -1,8 +1,8 @@
 // A TLV packet in packet memory: read, and joined to the state of its packet_id.
 ghost use mathlib.Core.Path.{_≡_};
-ghost use Prim.Native.Nat.{_+_, _*_, _≤_, _<_};
+ghost use Prim.Native.Nat.{_+_, _-_, _*_, _≤_, _<_};
 ghost use lib.ListN.{length};
-ghost use Rattle.receiver.specs.Packet.{readBy, arrivedAt, firstUnit, pieceFrom, Room, Reach, collected, wholeGiven, wholesOf, giveOf, joinedOf};
+ghost use Rattle.receiver.specs.Packet.{readBy, arrivedAt, firstUnit, pieceFrom, Stored, stored, Room, Reach, collected, wholeGiven, wholesOf, giveOf, joinedOf, placeOf, Fits, receivedOf};
 use crate::answer::Given;
 use crate::answer::Memory;
 use crate::answer::Place;
@@ -43,6 +43,16 @@ pub struct JoinedPacket {
     pub queue: Queue,
 }
 
+// How far it is from `start` to `end`; 0 where that lies before.
+pub fn distance(start: usize, end: usize) -> usize
+    ensures { λ r. ⌜ r ≡ end - start ⌝ }
+{
+    if end < start {
+        return 0;
+    }
+    end - start
+}
+
 // An MMTP packet that stands from `start` to `end` in packet memory, by its reading.
 fn locate(reading: Reading, start: usize, end: usize) -> Arrived
     ensures { λ r. ⌜ r ≡ readBy reading start end ⌝ }
@@ -59,7 +69,7 @@ fn locate(reading: Reading, start: usize, end: usize) -> Arrived
 pub fn arrive(config: Config, memory: &[u8], start: usize, end: usize) -> Arrived
     ensures { λ r. ⌜ r ≡ arrivedAt config (now (memory .entry)) start end ⌝ }
 {
-    let len = if end < start { 0 } else { end - start };
+    let len = distance(start, end);
     let bytes = wire::memory::part(memory, start, len);
     let flow = mmtp::flow::find(bytes, config.cid);
     match flow {
@@ -118,18 +128,26 @@ fn piece(packet: Packet, u: DataUnit) -> Piece
     }
 }
 
+// A data unit's bytes come to stand in collecting memory from `at` on.
+fn store(collecting: &mut [u8], at: usize, m: &[u8], u: DataUnit)
+    requires { ⌜ Stored (length (now collecting)) at (length (now m)) u ⌝ }
+    ensures { λ _. ⌜ now (collecting .exit) ≡ stored (now (collecting .entry)) at (now (m .entry)) u ⌝ }
+{
+    let start = u.start;
+    let end = u.end;
+    wire::memory::copy_at(collecting, at, &m[start..end]);
+}
+
 // The piece's bytes go to collecting memory, where the action says so.
 fn collect(action: Action, collecting: &mut [u8], base: usize, m: &[u8], u: DataUnit)
     requires { ⌜ Room action (length (now collecting)) base (length (now m)) u ⌝ }
     ensures { λ _. ⌜ now (collecting .exit) ≡ collected action (now (collecting .entry)) base (now (m .entry)) u ⌝ }
 {
-    let start = u.start;
-    let end = u.end;
     match action {
         Action::Nothing => {}
         Action::Whole => {}
-        Action::Store(at) => wire::memory::copy_at(collecting, base + at, &m[start..end]),
-        Action::Complete(at) => wire::memory::copy_at(collecting, base + at, &m[start..end]),
+        Action::Store(at) => store(collecting, base + at, m, u),
+        Action::Complete(at) => store(collecting, base + at, m, u),
     }
 }
 
@@ -206,7 +224,7 @@ pub fn join(
     let packet = l.packet;
     let start = l.start;
     let end = l.end;
-    let len = if end < start { 0 } else { end - start };
+    let len = distance(start, end);
     let m = wire::memory::part(memory, start, len);
     let payload = packet.payload;
     let u = first_unit(m, payload);
@@ -224,4 +242,45 @@ pub fn join(
     };
     let channel = j.channel;
     JoinedPacket { channel, queue }
+}
+
+// The place of the packet's packet_id in the watch list; 0 where there is no packet to join.
+pub fn place(arrived: Arrived) -> usize
+    ensures { λ r. ⌜ r ≡ placeOf arrived ⌝ }
+{
+    match arrived {
+        Arrived::Silent => 0,
+        Arrived::Noted(_, _) => 0,
+        Arrived::Good(l) => {
+            let packet = l.packet;
+            packet.place
+        }
+    }
+}
+
+// A packet comes to the state of its packet_id, and to an empty queue.
+pub fn receive(
+    arrived: Arrived,
+    channel: Channel,
+    queue: Queue,
+    memory: &[u8],
+    collecting: &mut [u8],
+    limit: usize,
+) -> JoinedPacket
+    requires { ⌜ Fits arrived limit (length (now collecting)) ⌝ }
+    ensures { λ r. ⌜ (r, now (collecting .exit)) ≡ receivedOf arrived channel queue (now (memory .entry)) (now (collecting .entry)) limit ⌝ }
+{
+    match arrived {
+        Arrived::Silent => JoinedPacket { channel, queue },
+        Arrived::Noted(note, id) => {
+            let queue = Queue {
+                note,
+                over: false,
+                packet_id: id,
+                give: Give::Nothing,
+            };
+            JoinedPacket { channel, queue }
+        }
+        Arrived::Good(l) => join(channel, l, memory, collecting, limit),
+    }
 }

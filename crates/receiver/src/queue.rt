@@ -1,8 +1,9 @@
 // What next has yet to give of a packet, one event at a time.
 ghost use mathlib.Core.Path.{_≡_};
-ghost use Rattle.receiver.specs.Queue.{giveBy, takenOf};
+ghost use Rattle.receiver.specs.Queue.{finished, giveBy, takenOf};
 use crate::answer::Event;
 use crate::packet::Located;
+use crate::packet::distance;
 use crate::packet::whole;
 use crate::state::Aggregate;
 use crate::state::Give;
@@ -15,6 +16,20 @@ pub struct Taken {
     pub queue: Queue,
 }
 
+// The queue gives no more.
+fn finish(q: Queue) -> Taken
+    ensures { λ r. ⌜ r ≡ finished q ⌝ }
+{
+    let queue = Queue {
+        give: Give::Nothing,
+        ..q
+    };
+    Taken {
+        event: Event::Nothing,
+        queue,
+    }
+}
+
 // The next unit of an aggregate.
 fn take_many(q: Queue, a: Aggregate, memory: &[u8]) -> Taken
     ensures { λ r. ⌜ r ≡ giveBy (Give.Many a) q (now (memory .entry)) ⌝ }
@@ -23,28 +38,24 @@ fn take_many(q: Queue, a: Aggregate, memory: &[u8]) -> Taken
     let payload = packet.payload;
     let start = a.start;
     let end = a.end;
-    let len = if end < start { 0 } else { end - start };
+    let len = distance(start, end);
     let bytes = wire::memory::part(memory, start, len);
     let step = mmtp::unit::unit_at(bytes, a.at, payload.kind, payload.wide);
-    let Step::Unit(u) = step else {
-        let queue = Queue {
-            give: Give::Nothing,
-            ..q
-        };
-        return Taken {
-            event: Event::Nothing,
-            queue,
-        };
-    };
-    let given = whole(Located { packet, start, end }, u);
-    let rest = Aggregate { at: u.end, ..a };
-    let queue = Queue {
-        give: Give::Many(rest),
-        ..q
-    };
-    Taken {
-        event: Event::Unit(given),
-        queue,
+    match step {
+        Step::Unit(u) => {
+            let given = whole(Located { packet, start, end }, u);
+            let rest = Aggregate { at: u.end, ..a };
+            let queue = Queue {
+                give: Give::Many(rest),
+                ..q
+            };
+            Taken {
+                event: Event::Unit(given),
+                queue,
+            }
+        }
+        Step::Malformed => finish(q),
+        Step::End => finish(q),
     }
 }
 

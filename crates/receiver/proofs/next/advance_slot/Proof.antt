@@ -1,39 +1,35 @@
+-- Why `advance_slot` meets its contract: a packet or the tail.
+use Rattle.receiver.specs.Next.{slotAdvanced}
 use borrow.Author.Needs.{needs}
 use Rattle.receiver.proofs.next.advance_slot.Statement.{statement}
 use Rattle.receiver.proofs.next.advance_slot.Tie as tie
-use Rattle.receiver.proofs.next.advance_slot.Reads as reads
-use Rattle.receiver.proofs.next.advance_slot.Lts as lts
-use Rattle.receiver.proofs.next.advance_tail.Reads as advance-tail-reads
-use Rattle.tlv.proofs.packet.packet_at.Reads as packet-at-reads
-use Rattle.wire.proofs.memory.part.Reads as part-reads
 
--- src/next.rt:69:9
 part-requires : tie.Need-part-requires
 part-requires c κs = search needs
 
--- src/next.rt:70:9
 packet-at-requires : tie.Need-packet-at-requires
 packet-at-requires c κs = search needs
 
--- src/next.rt:72:22
 enum-known-next : tie.Need-enum-known-next
 enum-known-next c = search needs
 
--- src/next.rt:79:23
 enum-told : tie.Need-enum-told
 enum-told c = search needs
 
--- src/next.rt:79:23
 advance-tail-requires : tie.Need-advance-tail-requires
 advance-tail-requires c κs = search needs
 
--- src/next.rt:64:1
 returns : tie.Need-returns
-returns c = ?
+unfolding slotAdvanced
+returns c =
+    let d = c .before .before .before in
+    rw (← d .before .part .ensures, ← d .packet-at .ensures, c .before .next .given .1)
 
--- src/next.rt:64:1
 returns-2 : tie.Need-returns-2
-returns-2 c = ?
+unfolding slotAdvanced
+returns-2 c =
+    let d = c .before .before .before in
+    rw (← d .before .part .ensures, ← d .packet-at .ensures, c .before .enum-told .given .1) (c .advance-tail .ensures)
 
 pub advance-slot-spec : {M : Type 1} → statement M
 advance-slot-spec =

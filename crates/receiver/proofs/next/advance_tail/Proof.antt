@@ -1,25 +1,22 @@
+-- Why `advance_tail` meets its contract: too long or not.
+use Rattle.receiver.specs.Next.{tailAdvanced}
 use borrow.Author.Needs.{needs}
 use Rattle.receiver.proofs.next.advance_tail.Statement.{statement}
 use Rattle.receiver.proofs.next.advance_tail.Tie as tie
-use Rattle.receiver.proofs.next.advance_tail.Reads as reads
-use Rattle.receiver.proofs.next.advance_tail.Lts as lts
-use Rattle.tlv.proofs.packet.too_long.Reads as too-long-reads
 
--- src/next.rt:49:12
-too-long-requires : tie.Need-too-long-requires
-too-long-requires c κs = search needs
+is-too-long-requires : tie.Need-is-too-long-requires
+is-too-long-requires c κs = search needs
 
--- src/next.rt:50:13
 returns : tie.Need-returns
-returns c = ?
+unfolding tailAdvanced
+returns c = rw (← c .before .is-too-long .ensures, c .if1 .taken)
 
--- src/next.rt:38:1
+distance-requires : tie.Need-distance-requires
+distance-requires c κs = search needs
+
 returns-2 : tie.Need-returns-2
-returns-2 c = ?
-
--- src/next.rt:38:1
-returns-3 : tie.Need-returns-3
-returns-3 c = ?
+unfolding tailAdvanced
+returns-2 c = rw (← c .before .before .is-too-long .ensures, c .before .if1 .left, c .distance .ensures)
 
 pub advance-tail-spec : {M : Type 1} → statement M
-advance-tail-spec = tie.close (tie.spec too-long-requires returns returns-2 returns-3)
+advance-tail-spec = tie.close (tie.spec is-too-long-requires returns distance-requires returns-2)

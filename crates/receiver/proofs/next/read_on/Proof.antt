@@ -1,93 +1,131 @@
+-- Why `read_on` meets its contract: each turn leaves what reading on comes to, and the cursor less.
+use Prim.Native.Nat.{ℕ, _<_}
+use mathlib.Core.Path.{_≡_, sym, _∙_, ap}
+use native.Mathlib.Omega.{arith}
+use lib.ListN.{length}
+use borrow.Author.Needs.{needs}
+use mathlib.Core.List.{List}
+use Rattle.receiver.specs.declared.packet.JoinedPacket.{JoinedPacket}
+use Rattle.reassembly.specs.Channel.{unheard}
+use Rattle.receiver.specs.Packet.{Fits}
+use Rattle.receiver.specs.Next.{left, readAll}
+use Rattle.receiver.specs.Within.{arrived-below, arrived-fits, length-received}
+use Rattle.receiver.specs.ReadOn.{turn-less, read-event, read-received, read-tail, read-done}
 use Rattle.receiver.proofs.next.read_on.Statement.{statement}
 use Rattle.receiver.proofs.next.read_on.Tie as tie
-use Rattle.receiver.proofs.next.read_on.Reads as reads
-use Rattle.receiver.proofs.next.read_on.Lts as lts
-use Rattle.receiver.proofs.next.advance.Reads as advance-reads
-use Rattle.receiver.proofs.next.is_event.Reads as is-event-reads
-use Rattle.receiver.proofs.next.take_packet.Reads as take-packet-reads
-use Rattle.receiver.proofs.queue.take.Reads as take-reads
 
 abbrev Inv-loop : tie.InvT-loop
-Inv-loop memory collecting₀ next₀ collecting next = ?
+Inv-loop memory collecting₀ config next₀ collecting next =
+    (readAll next memory collecting ≡ readAll next₀ memory collecting₀) × (next .config ≡ config) × (length collecting ≡ length collecting₀)
 
 abbrev μ-loop : tie.MeasureT-loop
-μ-loop memory collecting₀ next₀ collecting next = ?
+μ-loop memory collecting₀ config next₀ collecting next = left (next .cursor)
 
--- src/next.rt:158:5
+-- the place of the packet's packet_id
+below : (d : tie.After-place Inv-loop μ-loop) → d .place .result < 16
+below d = rw (d .place .ensures) (arrived-below _ _ _ _ _ (sym (d .before .arrive .ensures)))
+
+-- it has room to collect
+fits : (d : tie.After-arrive Inv-loop μ-loop) → let h = d .before .before .before .before .before .before .before .before .before .loop in
+    Fits (d .arrive .result) (d .before .before .before .before .before .before .before .before .before .before .before .before .before .args .st .config .limit) (length (h .collecting))
+fits d = arrived-fits _ _ _ _ _ _ (sym (d .arrive .ensures)) (rw (d .before .before .before .before .before .before .before .before .before .loop .inv .2) (d .before .before .before .before .before .before .before .before .before .before .before .before .before .pre))
+
 loop-holds : tie.Need-loop-holds Inv-loop μ-loop
-loop-holds c = ?
+loop-holds c = search needs
 
--- src/next.rt:160:13
-take-requires : tie.Need-take-requires Inv-loop μ-loop
-take-requires c κs = ?
+find-requires : tie.Need-find-requires Inv-loop μ-loop
+find-requires c κs = search needs
 
--- src/next.rt:167:12
-is-event-requires : tie.Need-is-event-requires Inv-loop μ-loop
-is-event-requires c κs = ?
-
--- src/next.rt:168:13
-same-length : tie.Need-same-length Inv-loop μ-loop
-same-length c = ?
-
--- src/next.rt:168:13
-returns : tie.Need-returns Inv-loop μ-loop
-returns c = ?
-
--- src/next.rt:171:13
-advance-requires : tie.Need-advance-requires Inv-loop μ-loop
-advance-requires c κs = ?
-
--- src/next.rt:179:25
 enum-known-found : tie.Need-enum-known-found Inv-loop μ-loop
-enum-known-found c = ?
+enum-known-found c = search needs
 
--- src/next.rt:180:17
-same-length-2 : tie.Need-same-length-2 Inv-loop μ-loop
-same-length-2 c = ?
+same-length : tie.Need-same-length Inv-loop μ-loop
+same-length c = search needs
 
--- src/next.rt:180:17
-returns-2 : tie.Need-returns-2 Inv-loop μ-loop
-returns-2 c = ?
+returns : tie.Need-returns Inv-loop μ-loop
+returns c =
+    let d = c .before .before .before .before .before in
+    let h = d .before .before .before .loop in
+    rw (d .find .ensures) (sym (read-event (h .next) _ (h .collecting) _ (rw (d .find .ensures) at (c .before .found .given .1))) ∙ h .inv .0)
 
--- src/next.rt:185:27
 enum-known-found-2 : tie.Need-enum-known-found-2 Inv-loop μ-loop
-enum-known-found-2 c = ?
+enum-known-found-2 c = search needs
 
--- src/next.rt:186:17
-take-packet-requires : tie.Need-take-packet-requires Inv-loop μ-loop
-take-packet-requires c κs = ?
+arrive-requires : tie.Need-arrive-requires Inv-loop μ-loop
+arrive-requires c κs = search needs
 
--- src/next.rt:158:5
+place-requires : tie.Need-place-requires Inv-loop μ-loop
+place-requires c κs = search needs
+
+mul-channel : tie.Need-mul-channel Inv-loop μ-loop
+mul-channel c =
+    record { fits = omega (arith, below c) }
+
+element-copy-out-channel : tie.Need-element-copy-out-channel Inv-loop μ-loop
+element-copy-out-channel c =
+    below c
+
+receive-requires : tie.Need-receive-requires Inv-loop μ-loop
+receive-requires c κs =
+    fits (c .before .before .before)
+
+mul-after : tie.Need-mul-after Inv-loop μ-loop
+mul-after c =
+    record { fits = omega (arith, below (c .before .before .before .before .before .before .before)) }
+
+element-set-from-after : tie.Need-element-set-from-after Inv-loop μ-loop
+element-set-from-after c =
+    below (c .before .before .before .before .before .before .before)
+
 loop-less : tie.Need-loop-less Inv-loop μ-loop
-loop-less c = ?
+loop-less c =
+    let f = c .before .before .before .before .before .before .before .before .before .before in
+    let d = f .before .before .before .before in
+    let h = d .before .before .before .loop in
+    rw (d .find .ensures) (turn-less (h .next .queue) (h .next .cursor) _ (rw (sym (d .find .ensures), f .found2 .given .1)))
 
--- src/next.rt:158:5
 loop-again : tie.Need-loop-again Inv-loop μ-loop
-loop-again c = ?
+unfolding unheard
+loop-again c =
+    let x = c .before .before .before .before .receive in
+    let k = c .before .before .before .before .before .before .before .place in
+    let a = c .before .before .before .before .before .before .before .before in
+    let f = a .before .before in
+    let d = f .before .before .before .before in
+    let h = d .before .before .before .loop in
+    let e = rw (d .find .ensures) at (f .found2 .given .1) in
+    (rw (d .find .ensures, k .ensures) (sym (read-received (h .next) _ (h .collecting) _ _ (a .arrive .result) _ _ e (rw (h .inv .1) (sym (a .arrive .ensures))) (rw (h .inv .1, ← k .ensures, ← d .find .ensures) (x .ensures))) ∙ h .inv .0), h .inv .1, ap (λ (y : JoinedPacket × List ℕ). length (y .1)) (x .ensures) ∙ length-received _ _ _ _ _ _ (fits a) ∙ h .inv .2)
 
--- src/next.rt:188:25
 enum-known-found-3 : tie.Need-enum-known-found-3 Inv-loop μ-loop
-enum-known-found-3 c = ?
+enum-known-found-3 c = search needs
 
--- src/next.rt:158:5
+hold-requires : tie.Need-hold-requires Inv-loop μ-loop
+hold-requires c κs = search needs
+
 loop-less-2 : tie.Need-loop-less-2 Inv-loop μ-loop
-loop-less-2 c = ?
+loop-less-2 c =
+    let d = c .before .before .before .before .before .before in
+    let h = d .before .before .before .loop in
+    rw (d .find .ensures) (turn-less (h .next .queue) (h .next .cursor) _ (rw (sym (d .find .ensures), c .before .before .found3 .given .1)))
 
--- src/next.rt:158:5
 loop-again-2 : tie.Need-loop-again-2 Inv-loop μ-loop
-loop-again-2 c = ?
+loop-again-2 c =
+    let d = c .before .before .before .before .before .before in
+    let h = d .before .before .before .loop in
+    let e = rw (d .find .ensures) at (c .before .before .found3 .given .1) in
+    (rw (c .hold .ensures, d .find .ensures) (sym (read-tail (h .next) _ (h .collecting) _ _ e) ∙ h .inv .0), h .inv .1, h .inv .2)
 
--- src/next.rt:198:28
 enum-told : tie.Need-enum-told Inv-loop μ-loop
-enum-told c = ?
+enum-told c = search needs
 
--- src/next.rt:197:17
-same-length-3 : tie.Need-same-length-3 Inv-loop μ-loop
-same-length-3 c = ?
+same-length-2 : tie.Need-same-length-2 Inv-loop μ-loop
+same-length-2 c = search needs
 
--- src/next.rt:197:17
-returns-3 : tie.Need-returns-3 Inv-loop μ-loop
-returns-3 c = ?
+returns-2 : tie.Need-returns-2 Inv-loop μ-loop
+returns-2 c =
+    let d = c .before .before .before .before in
+    let h = d .before .before .before .loop in
+    rw (d .find .ensures) (sym (read-done (h .next) _ (h .collecting) (rw (d .find .ensures) at (c .enum-told .given .1))) ∙ h .inv .0)
 
 pub read-on-spec : {M : Type 1} → statement M
 read-on-spec =
@@ -96,21 +134,24 @@ read-on-spec =
     Inv-loop
     μ-loop
     loop-holds
-    take-requires
-    is-event-requires
+    find-requires
+    enum-known-found
     same-length
     returns
-    advance-requires
-    enum-known-found
-    same-length-2
-    returns-2
     enum-known-found-2
-    take-packet-requires
+    arrive-requires
+    place-requires
+    mul-channel
+    element-copy-out-channel
+    receive-requires
+    mul-after
+    element-set-from-after
     loop-less
     loop-again
     enum-known-found-3
+    hold-requires
     loop-less-2
     loop-again-2
     enum-told
-    same-length-3
-    returns-3)
+    same-length-2
+    returns-2)

@@ -1,41 +1,42 @@
+-- Why `first_unit` meets its contract: aggregated or not, and then as the unit is read.
+use Rattle.receiver.specs.Packet.{firstUnit}
 use borrow.Author.Needs.{needs}
 use Rattle.receiver.proofs.packet.first_unit.Statement.{statement}
 use Rattle.receiver.proofs.packet.first_unit.Tie as tie
-use Rattle.receiver.proofs.packet.first_unit.Reads as reads
-use Rattle.receiver.proofs.packet.first_unit.Lts as lts
-use Rattle.mmtp.proofs.unit.single_at.Reads as single-at-reads
 
--- src/packet.rt:94:9
 returns : tie.Need-returns
-returns c = ?
+unfolding firstUnit
+returns c = rw (c .if1 .taken)
 
--- src/packet.rt:96:9
 single-at-requires : tie.Need-single-at-requires
 single-at-requires c κs = search needs
 
--- src/packet.rt:98:20
 enum-known-step : tie.Need-enum-known-step
 enum-known-step c = search needs
 
--- src/packet.rt:99:28
 enum-told : tie.Need-enum-told
 enum-told c = search needs
 
--- src/packet.rt:100:22
 enum-told-2 : tie.Need-enum-told-2
 enum-told-2 c = search needs
 
--- src/packet.rt:77:1
 returns-2 : tie.Need-returns-2
-returns-2 c = ?
+unfolding firstUnit
+returns-2 c =
+    let d = c .before .before .before in
+    rw (d .before .if1 .left, ← d .single-at .ensures, c .before .step .given .1)
 
--- src/packet.rt:77:1
 returns-3 : tie.Need-returns-3
-returns-3 c = ?
+unfolding firstUnit
+returns-3 c =
+    let d = c .before .before in
+    rw (d .before .if1 .left, ← d .single-at .ensures, c .enum-told .given .1)
 
--- src/packet.rt:77:1
 returns-4 : tie.Need-returns-4
-returns-4 c = ?
+unfolding firstUnit
+returns-4 c =
+    let d = c .before .before in
+    rw (d .before .if1 .left, ← d .single-at .ensures, c .enum-told2 .given .1)
 
 pub first-unit-spec : {M : Type 1} → statement M
 first-unit-spec =

@@ -1,53 +1,49 @@
+-- Why `give` meets its contract: action by action.
+use native.Mathlib.Omega.{arith}
+use Rattle.receiver.specs.Packet.{giveOf}
 use borrow.Author.Needs.{needs}
 use Rattle.receiver.proofs.packet.give.Statement.{statement}
 use Rattle.receiver.proofs.packet.give.Tie as tie
-use Rattle.receiver.proofs.packet.give.Reads as reads
-use Rattle.receiver.proofs.packet.give.Lts as lts
-use Rattle.receiver.proofs.packet.give_wholes.Reads as give-wholes-reads
 
--- src/packet.rt:159:28
 enum-told : tie.Need-enum-told
 enum-told c = search needs
 
--- src/packet.rt:160:26
 enum-told-2 : tie.Need-enum-told-2
 enum-told-2 c = search needs
 
--- src/packet.rt:160:26
 give-wholes-requires : tie.Need-give-wholes-requires
 give-wholes-requires c κs = search needs
 
--- src/packet.rt:161:29
 enum-told-3 : tie.Need-enum-told-3
 enum-told-3 c = search needs
 
--- src/packet.rt:162:26
 enum-known-action : tie.Need-enum-known-action
 enum-known-action c = search needs
 
--- src/packet.rt:169:28
 sub-t13 : tie.Need-sub-t13
 sub-t13 c = search needs
 
--- src/packet.rt:169:22
 add-t14 : tie.Need-add-t14
-add-t14 c = ?
+add-t14 c =
+    let d = c .before .before .before .before in
+    let h = rw (d .before .action .given .1) at (d .before .before .before .pre .2) in
+    omega (arith, h)
 
--- src/packet.rt:153:1
 returns : tie.Need-returns
-returns c = ?
+unfolding giveOf
+returns c = rw (c .enum-told .given .1)
 
--- src/packet.rt:153:1
 returns-2 : tie.Need-returns-2
-returns-2 c = ?
+unfolding giveOf
+returns-2 c = rw (c .before .enum-told2 .given .1) (c .give-wholes .ensures)
 
--- src/packet.rt:153:1
 returns-3 : tie.Need-returns-3
-returns-3 c = ?
+unfolding giveOf
+returns-3 c = rw (c .enum-told3 .given .1)
 
--- src/packet.rt:153:1
 returns-4 : tie.Need-returns-4
-returns-4 c = ?
+unfolding giveOf
+returns-4 c = rw (c .before .before .before .before .before .action .given .1)
 
 pub give-spec : {M : Type 1} → statement M
 give-spec =

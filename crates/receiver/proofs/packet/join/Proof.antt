@@ -1,55 +1,74 @@
+-- Why `join` meets its contract: the packet's bytes, its piece and the step are those of the definition, and the piece fits.
+use Prim.Native.Nat.{_*_, _<_, _≤_}
+use lib.ListN.{length}
+use Rattle.receiver.specs.Within.{part-reach, joined-reach}
+use Rattle.receiver.specs.Packet.{firstUnit, joinedOf}
+use Rattle.receiver.specs.Within.{first-inside, joined-room}
+use native.Mathlib.Omega.{arith}
 use borrow.Author.Needs.{needs}
 use Rattle.receiver.proofs.packet.join.Statement.{statement}
 use Rattle.receiver.proofs.packet.join.Tie as tie
-use Rattle.receiver.proofs.packet.join.Reads as reads
-use Rattle.receiver.proofs.packet.join.Lts as lts
-use Rattle.reassembly.proofs.join.join.Reads as join-reads
-use Rattle.receiver.proofs.packet.collect.Reads as collect-reads
-use Rattle.receiver.proofs.packet.first_unit.Reads as first-unit-reads
-use Rattle.receiver.proofs.packet.give.Reads as give-reads
-use Rattle.receiver.proofs.packet.piece.Reads as piece-reads
-use Rattle.wire.proofs.memory.part.Reads as part-reads
 
--- src/packet.rt:210:9
+distance-requires : tie.Need-distance-requires
+distance-requires c κs = search needs
+
 part-requires : tie.Need-part-requires
 part-requires c κs = search needs
 
--- src/packet.rt:212:9
 first-unit-requires : tie.Need-first-unit-requires
 first-unit-requires c κs = search needs
 
--- src/packet.rt:213:9
 piece-requires : tie.Need-piece-requires
-piece-requires c κs = ?
+piece-requires c κs = rw (c .first-unit .ensures) (first-inside _ _ .ordered)
 
--- src/packet.rt:214:9
 join-requires : tie.Need-join-requires
 join-requires c κs = search needs
 
--- src/packet.rt:215:16
 mul-base : tie.Need-mul-base
-mul-base c = ?
+mul-base c =
+    let s = c .before .before .before .before .before .before .before .before .before .before in
+    let a = s .args in
+    let h : a .l .packet .place * a .limit < 18446744073709551616 = omega (arith, s .pre) in
+    record { fits = h }
 
--- src/packet.rt:217:5
 collect-requires : tie.Need-collect-requires
-collect-requires c κs = ?
+collect-requires c κs =
+    let f = c .before .before .before .before in
+    let b = f .before .before .part in
+    let s = f .before .before .before .before .before .before .before in
+    let a = s .args in
+    rw (c .before .before .join .ensures, c .before .before .before .piece .ensures, f .first-unit .ensures, b .ensures, f .before .before .before .distance .ensures)
+    (joined-room (a .ch) (a .l) (a .memory .now) (a .collecting .now) (a .limit) (s .pre))
 
--- src/packet.rt:218:9
 give-requires : tie.Need-give-requires
-give-requires c κs = ?
+give-requires c κs =
+    let j = c .before .before .before .before .before in
+    let f = j .before .before in
+    let b = f .before .before .part in
+    let s = f .before .before .before .before .before .before .before in
+    let a = s .args in
+    let k : a .l .start < 18446744073709551616 = omega (arith, s .good) in
+    let n : a .limit < 18446744073709551616 = omega (arith, s .good) in
+    let i = first-inside (b .result .now) (a .l .packet .payload) in
+    let w : firstUnit (b .result .now) (a .l .packet .payload) .start ≤ length (b .result .now) = omega (arith, i .ordered, i .within) in
+    rw (j .join .ensures, j .before .piece .ensures, f .first-unit .ensures, b .ensures, f .before .before .before .distance .ensures)
+    (first-inside _ _ .ordered, part-reach _ (a .l .start) _ _ _ k (omega arith) (rw (b .ensures, f .before .before .before .distance .ensures) at w), joined-reach (a .ch) (a .l) (a .memory .now) (a .collecting .now) (a .limit) (s .pre) n)
 
--- src/packet.rt:196:1
 same-length : tie.Need-same-length
 same-length c = search needs
 
--- src/packet.rt:196:1
 returns : tie.Need-returns
-returns c = ?
+unfolding joinedOf
+returns c =
+    let j = c .before .before .before .before .before .before .before in
+    let f = j .before .before in
+    rw (c .before .give .ensures, c .before .before .before .before .collect .ensures, j .join .ensures, j .before .piece .ensures, f .first-unit .ensures, f .before .before .part .ensures, f .before .before .before .distance .ensures)
 
 pub join-spec : {M : Type 1} → statement M
 join-spec =
     tie.close
     (tie.spec
+    distance-requires
     part-requires
     first-unit-requires
     piece-requires

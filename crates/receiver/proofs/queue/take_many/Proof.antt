@@ -1,37 +1,81 @@
+-- Why `take_many` meets its contract: a unit, or none is left.
+use Rattle.receiver.specs.Within.{unit-inside, part-reach}
+use Rattle.mmtp.specs.Unit.{unitAt}
+use Rattle.wire.specs.Memory.{partOf}
+use lib.ListN.{length}
+use native.Mathlib.Omega.{arith}
+use Prim.Native.Nat.{_-_, _≤_, _<_}
+use mathlib.Core.Path.{_≡_, sym, _∙_}
 use borrow.Author.Needs.{needs}
 use Rattle.receiver.proofs.queue.take_many.Statement.{statement}
 use Rattle.receiver.proofs.queue.take_many.Tie as tie
-use Rattle.receiver.proofs.queue.take_many.Reads as reads
-use Rattle.receiver.proofs.queue.take_many.Lts as lts
-use Rattle.mmtp.proofs.unit.unit_at.Reads as unit-at-reads
-use Rattle.receiver.proofs.packet.whole.Reads as whole-reads
-use Rattle.wire.proofs.memory.part.Reads as part-reads
 
--- src/queue.rt:27:9
+-- what stands at the next unit's place
+steps : (d : tie.After-unit-at) → let a = d .before .before .before .before .before .before .args .a in
+    let p = d .before .before .before .before .before .before .args .memory .now in
+    unitAt (partOf p (a .start) (a .end - a .start)) (a .at) (a .packet .payload .kind) (a .packet .payload .wide)
+    ≡ d .unit-at .result
+steps d = rw (d .unit-at .ensures, d .before .part .ensures, d .before .before .distance .ensures)
+
+distance-requires : tie.Need-distance-requires
+distance-requires c κs = search needs
+
 part-requires : tie.Need-part-requires
 part-requires c κs = search needs
 
--- src/queue.rt:28:9
 unit-at-requires : tie.Need-unit-at-requires
 unit-at-requires c κs = search needs
 
--- src/queue.rt:29:20
 enum-known-step : tie.Need-enum-known-step
 enum-known-step c = search needs
 
--- src/queue.rt:34:9
-returns : tie.Need-returns
-returns c = ?
-
--- src/queue.rt:39:9
 whole-requires : tie.Need-whole-requires
-whole-requires c κs = ?
+whole-requires c κs =
+    let d = c .before .before .before in
+    let s = d .before .before .before .before .before .before in
+    let u = c .before .step .given .0 .0 in
+    let b = d .before .part in
+    let i = unit-inside _ _ _ _ _ (sym (d .unit-at .ensures) ∙ c .before .step .given .1) in
+    let w : u .start ≤ length (b .result .now) = omega (arith, i .ordered, i .within) in
+    let k : s .args .a .start < 18446744073709551616 = omega (arith, s .good) in
+    (i .ordered, part-reach _ (s .args .a .start) _ _ _ k (omega arith) (rw (b .ensures) at w))
 
--- src/queue.rt:19:1
+enum-told : tie.Need-enum-told
+enum-told c = search needs
+
+finish-requires : tie.Need-finish-requires
+finish-requires c κs = search needs
+
+enum-told-2 : tie.Need-enum-told-2
+enum-told-2 c = search needs
+
+finish-requires-2 : tie.Need-finish-requires-2
+finish-requires-2 c κs = search needs
+
+returns : tie.Need-returns
+returns c =
+    let d = c .before .before .before in
+    rw (c .before .whole .ensures, steps (d .before .before), d .step .given .1)
+
 returns-2 : tie.Need-returns-2
-returns-2 c = ?
+returns-2 c = rw (steps (c .before .before .before), c .before .enum-told .given .1) (c .finish .ensures)
+
+returns-3 : tie.Need-returns-3
+returns-3 c = rw (steps (c .before .before .before), c .before .enum-told2 .given .1) (c .finish2 .ensures)
 
 pub take-many-spec : {M : Type 1} → statement M
 take-many-spec =
     tie.close
-    (tie.spec part-requires unit-at-requires enum-known-step returns whole-requires returns-2)
+    (tie.spec
+    distance-requires
+    part-requires
+    unit-at-requires
+    enum-known-step
+    whole-requires
+    enum-told
+    finish-requires
+    enum-told-2
+    finish-requires-2
+    returns
+    returns-2
+    returns-3)

@@ -1,37 +1,34 @@
+-- Why `take_unit` meets its contract: by what there is to give.
+use Rattle.receiver.specs.Queue.{giveBy}
+use Rattle.receiver.specs.declared.state.Give.{Give}
+use mathlib.Core.Path.{sym, _∙_, ap}
 use borrow.Author.Needs.{needs}
 use Rattle.receiver.proofs.queue.take_unit.Statement.{statement}
 use Rattle.receiver.proofs.queue.take_unit.Tie as tie
-use Rattle.receiver.proofs.queue.take_unit.Reads as reads
-use Rattle.receiver.proofs.queue.take_unit.Lts as lts
-use Rattle.receiver.proofs.queue.take_many.Reads as take-many-reads
 
--- src/queue.rt:58:20
 enum-told : tie.Need-enum-told
 enum-told c = search needs
 
--- src/queue.rt:61:19
 enum-known-give : tie.Need-enum-known-give
 enum-known-give c = search needs
 
--- src/queue.rt:71:20
 enum-known-give-2 : tie.Need-enum-known-give-2
 enum-known-give-2 c = search needs
 
--- src/queue.rt:71:26
 take-many-requires : tie.Need-take-many-requires
 take-many-requires c κs = search needs
 
--- src/queue.rt:52:1
 returns : tie.Need-returns
-returns c = ?
+returns c = rw (c .enum-told .given .1)
 
--- src/queue.rt:52:1
 returns-2 : tie.Need-returns-2
-returns-2 c = ?
+returns-2 c = rw (c .before .give .given .1)
 
--- src/queue.rt:52:1
 returns-3 : tie.Need-returns-3
-returns-3 c = ?
+returns-3 c =
+    let d = c .before .before in
+    let a = d .before .before .before .args in
+    c .take-many .ensures ∙ sym (ap (λ (g : Give). giveBy g (a .q) (a .memory .now)) (d .give2 .given .1))
 
 pub take-unit-spec : {M : Type 1} → statement M
 take-unit-spec =

@@ -1,0 +1,21 @@
+-- A choice by a test.
+use mathlib.Core.Path.{_≡_, refl}
+use mathlib.Core.Bool.{Bool, true, false, cond, _||_}
+
+module _ {A : Type 0} where
+  pub chosen : (b : Bool) (x y : A) → b ≡ true → cond b x y ≡ x
+  chosen true x y e = refl
+  chosen false x y e = cc
+
+  pub chosen-not : (b : Bool) (x y : A) → b ≡ false → cond b x y ≡ y
+  chosen-not true x y e = cc
+  chosen-not false x y e = refl
+
+  -- what holds of both answers
+  pub by-test : (P : A → Type 0) (b : Bool) (x y : A) → (b ≡ true → P x) → (b ≡ false → P y) → P (cond b x y)
+  by-test P true x y f g = f refl
+  by-test P false x y f g = g refl
+
+pub neither : (a b : Bool) → a || b ≡ false → (a ≡ false) × (b ≡ false)
+neither true b e = (cc, cc)
+neither false b e = (refl, e)
