@@ -1,3 +1,5 @@
 -- The claims about broadcasts as a whole.
 pub mod Account
+pub mod Drains
+pub mod Pending
 pub mod Specimens
