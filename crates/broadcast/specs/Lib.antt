@@ -2,4 +2,6 @@
 pub mod Account
 pub mod Drains
 pub mod Pending
+pub mod Calls
+pub mod Frames
 pub mod Specimens
