@@ -90,6 +90,15 @@ pub record Paid {A : Type 0} (cfg : Config) (fr : Frame) (p : List ℕ) (es : Li
   pub frame : st .frame ≡ fr
   pub tracks : Tracks cfg st p c tl f
 
+-- the calls of next until nothing waits show es, and leave a state that stands for tl and f
+pub record Settles {A : Type 0} (cfg : Config) (fr : Frame) (p : List ℕ) (tl : Slot-state A) (f : ℕ → Line (List A)) (es : List Shown)
+    (st : State) (c : List ℕ) : Type 0 where
+  pub state : State
+  pub collecting : List ℕ
+  pub drains : Drains p st c es state collecting
+  pub frame : state .frame ≡ fr
+  pub tracks : Tracks cfg state p collecting tl f
+
 module _ (advance : Advance) (packet-does : PacketDoes) (queue-gives : QueueGives) {A : Type 0} (cfg : Config) (fr : Frame) (p : List ℕ)
     (long : 21433 ≤ length p) (tl : Slot-state A) (f : ℕ → Line (List A)) where
   abbrev Told : List Shown → Event → State → List ℕ → Type 0
@@ -286,15 +295,8 @@ module _ (advance : Advance) (packet-does : PacketDoes) (queue-gives : QueueGive
   unfolding nextOf shortBy
   next-reads st c e o h = rw (e, o, le-ltb _ _ long, le-ltb _ _ h)
 
-  pub record Settles (es : List Shown) (st : State) (c : List ℕ) : Type 0 where
-    pub state : State
-    pub collecting : List ℕ
-    pub drains : Drains p st c es state collecting
-    pub frame : state .frame ≡ fr
-    pub tracks : Tracks cfg state p collecting tl f
-
   settle-by : (es : List Shown) (st st' : State) (c c' : List ℕ) (e : Event) → nextOf st p c ≡ (record { event = e; state = st' }, c')
-      → Told es e st' c' → ((xs : List Shown) (x : Shown) → es ≡ x ∷ xs → Owes cfg fr p xs tl f st' c' → Settles xs st' c') → Settles es st c
+      → Told es e st' c' → ((xs : List Shown) (x : Shown) → es ≡ x ∷ xs → Owes cfg fr p xs tl f st' c' → Settles cfg fr p tl f xs st' c') → Settles cfg fr p tl f es st c
   settle-by es st st' c c' Nothing q t h =
       record {
         state = st';
@@ -323,7 +325,7 @@ module _ (advance : Advance) (packet-does : PacketDoes) (queue-gives : QueueGive
       }
   settle-by es st st' c c' (Refused n) q t h = absurd t
 
-  pub settle : (es : List Shown) (st : State) (c : List ℕ) → Owes cfg fr p es tl f st c → Settles es st c
+  pub settle : (es : List Shown) (st : State) (c : List ℕ) → Owes cfg fr p es tl f st c → Settles cfg fr p tl f es st c
   settle [] st c o =
       let r = readOn (suc (left (st .cursor))) st p c in
       settle-by [] st (r .0 .state) c (r .1) (r .0 .event) (next-reads st c (o .lines .config) (o .owed) (o .lines .collecting-long))
@@ -336,5 +338,5 @@ module _ (advance : Advance) (packet-does : PacketDoes) (queue-gives : QueueGive
       (read-told (suc (left (st .cursor))) (y ∷ ys) st c (omega arith) o)
       (λ xs x q u.
       let e : xs ≡ ys = cc in
-      subst (λ (l : List Shown). Settles l (r .0 .state) (r .1)) (sym e)
+      subst (λ (l : List Shown). Settles cfg fr p tl f l (r .0 .state) (r .1)) (sym e)
       (settle ys (r .0 .state) (r .1) (subst (λ (l : List Shown). Owes cfg fr p l tl f (r .0 .state) (r .1)) e u)))

@@ -6,7 +6,7 @@ use mathlib.Core.Path.{_≡_}
 use lib.ListN.{length, getD}
 use Rattle.tmcc.specs.declared.layout.Layout.{Layout}
 use Rattle.tmcc.specs.Block.{decodeOf}
-use Rattle.tlv.specs.Run.{Slot}
+use Rattle.tlv.specs.Run.{Slot, Arrival, lost as lost-slot-arrives, given}
 use Rattle.broadcast.specs.Calls.{Call, frame, lost-frame, slot, lost-slot, next, Todo, call, drain}
 
 -- a control block, and the data of the 120 slots
@@ -49,17 +49,42 @@ unfoldable pub reading : Damage → ℕ → List Frame → List Todo
 reading d i [] = []
 reading d i (f ∷ fs) = frameTodo (d .frames i) (d .slots i) f ++ reading d (suc i) fs
 
--- the own live slots of a frame, labelled by frame and slot
-abbrev pub ownSlot : Layout → ℕ → ℕ → List ℕ → List ((ℕ × ℕ) × Slot)
-ownSlot l i s d =
-    let t = getD (l .pointers) s (record { 0 = 0; 1 = 0 }) in
-    cond (getD (l .own) s false) (((i, s), record { top = t .0; last = t .1; bytes = d }) ∷ []) []
+-- slot s of a frame with this layout: its pointers and its data
+abbrev pub slotAt : Layout → ℕ → List ℕ → Slot
+slotAt l s d = let t = getD (l .pointers) s (record { 0 = 0; 1 = 0 }) in record { top = t .0; last = t .1; bytes = d }
 
+-- x, if slot s is an own live one
+abbrev pub ifOwn : {A : Type 0} → Layout → ℕ → A → List A
+ifOwn l s x = cond (getD (l .own) s false) (x ∷ []) []
+
+-- the own live slots of a frame from number s on, labelled by frame and slot
 unfoldable pub slotsFrom : Layout → ℕ → ℕ → List (List ℕ) → List ((ℕ × ℕ) × Slot)
 slotsFrom l i s [] = []
-slotsFrom l i s (d ∷ ds) = ownSlot l i s d ++ slotsFrom l i (suc s) ds
+slotsFrom l i s (d ∷ ds) = ifOwn l s ((i, s), slotAt l s d) ++ slotsFrom l i (suc s) ds
+
+abbrev pub layoutIn : ℕ → Frame → Layout
+layoutIn stream f = decodeOf (f .block) stream .layout
 
 -- the own live slots of the frames from number i on, for the stream with this id
 unfoldable pub ownSlots : ℕ → ℕ → List Frame → List ((ℕ × ℕ) × Slot)
 ownSlots stream i [] = []
-ownSlots stream i (f ∷ fs) = slotsFrom (decodeOf (f .block) stream .layout) i 0 (f .slots) ++ ownSlots stream (suc i) fs
+ownSlots stream i (f ∷ fs) = slotsFrom (layoutIn stream f) i 0 (f .slots) ++ ownSlots stream (suc i) fs
+
+abbrev pub arriving : Bool → ℕ × ℕ → Slot → Arrival (ℕ × ℕ)
+arriving true x s = lost-slot-arrives
+arriving false x s = given x s
+
+-- what arrives of a frame's own live slots
+unfoldable pub slotsArrive : Layout → (ℕ → Bool) → ℕ → ℕ → List (List ℕ) → List (Arrival (ℕ × ℕ))
+slotsArrive l gone i s [] = []
+slotsArrive l gone i s (d ∷ ds) = ifOwn l s (arriving (gone s) (i, s) (slotAt l s d)) ++ slotsArrive l gone i (suc s) ds
+
+-- a lost frame is read as one lost own slot
+abbrev pub frameArrives : Bool → Layout → (ℕ → Bool) → ℕ → List (List ℕ) → List (Arrival (ℕ × ℕ))
+frameArrives true l gone i ds = lost-slot-arrives ∷ []
+frameArrives false l gone i ds = slotsArrive l gone i 0 ds
+
+-- what arrives of the frames from number i on
+unfoldable pub arrivals : ℕ → Damage → ℕ → List Frame → List (Arrival (ℕ × ℕ))
+arrivals stream d i [] = []
+arrivals stream d i (f ∷ fs) = frameArrives (d .frames i) (layoutIn stream f) (d .slots i) i (f .slots) ++ arrivals stream d (suc i) fs
