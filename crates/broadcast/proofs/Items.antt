@@ -95,7 +95,7 @@ item-by cfg m k d tl f es l s e i =
     record { answer = j .0; state = j .1; collecting = j .2; drains = j .3; at = j .4 }
 
 -- the slot that is due is not refused for the state or the memories
-due : {A : Type 0} (cfg : Config) (m : Machine) (tl : Slot-state A) (f : ℕ → Line (List A)) (l : Layout) (s : ℕ) → At cfg m tl f l s
+pub due : {A : Type 0} (cfg : Config) (m : Machine) (tl : Slot-state A) (f : ℕ → Line (List A)) (l : Layout) (s : ℕ) → At cfg m tl f l s
     → s < 120 → refusalOf (m .state) (length (m .packet)) (length (m .collecting)) ≡ 0
 unfolding refusalOf shortBy
 due cfg m tl f l s a h =

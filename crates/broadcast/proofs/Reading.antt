@@ -14,6 +14,7 @@ use Rattle.tlv.proofs.Runs.{run-append}
 use Rattle.tlv.specs.Run.{Stepped, State as Slot-state, Arrival, given, lost, step, run, stateAfter, Event as Slot-event}
 use Rattle.reassembly.specs.declared.config.Config.{Config}
 use Rattle.reassembly.specs.Run.{Line}
+use Rattle.receiver.specs.declared.state.Frame.{Frame as ReceiverFrame}
 use Rattle.receiver.specs.declared.state.State.{State}
 use Rattle.receiver.specs.State.{withFrame, refused as refusedWith, accepted as acceptedAs}
 use Rattle.receiver.specs.Frame.{frameBusy, frameOf}
@@ -23,9 +24,9 @@ use Rattle.broadcast.specs.Drains.{Shown, strip}
 use Rattle.broadcast.specs.SlotClaims.{OwnSlot, LostSlot, LostFrame, Advance}
 use Rattle.broadcast.specs.PacketClaims.{PacketDoes, QueueGives}
 use Rattle.broadcast.specs.Calls.{Machine, Call, frame, slot, lost-slot, lost-frame, accepted, refused, numbered, Did, did, Todo, call, drain, Made, own, shows, added, Follows, allShown, refusals, noteShown, refusalIn, Answer}
-use Rattle.broadcast.specs.Frames.{Frame, Damage, slotCall, slotsTodo, frameTodo, reading, slotAt, ifOwn, arriving, slotsArrive, layoutIn, frameArrives, arrivals}
+use Rattle.broadcast.specs.Frames.{Frame, Whole, Damage, none, slotCall, slotsTodo, frameTodo, reading, slotAt, ifOwn, arriving, slotsArrive, layoutIn, frameArrives, arrivals}
 use Rattle.broadcast.proofs.Script.{Left, Makes, call-follows, drain-follows, call-made, drain-made}
-use Rattle.broadcast.proofs.Items.{At, Item, own-item, lost-item, lost-frame-item, other-item, other-lost-item}
+use Rattle.broadcast.proofs.Items.{At, Item, due, own-item, lost-item, lost-frame-item, other-item, other-lost-item}
 
 -- one list of slot events behind another
 module _ {A : Type 0} (cfg : Config) where
@@ -411,3 +412,58 @@ module _ (advance : Advance) (packet-does : PacketDoes) (queue-gives : QueueGive
       go : (b : Bool) → (cond b (refusedWith 23 st, p) (slotTaken (dueOwn st) st p d (duePointers st))) .0 .refusal ≡ 0 → b ≡ false
       go true q = absurd (omega arith)
       go false q = refl
+
+  -- the refusal of a slot's or a frame's call is its number
+  slot-refusal : (d : List ℕ) (m : Machine) → refusalIn (did (slot d) m .answer) ≡ []
+      → refusalIn (numbered (slotOf (m .state) (m .packet) (m .collecting) d .0 .refusal)) ≡ []
+  unfolding did
+  slot-refusal d m e = e
+
+  frame-refusal : (b : List ℕ) (m : Machine) → refusalIn (did (frame b) m .answer) ≡ []
+      → refusalIn (numbered (frameOf (m .state) b .refusal)) ≡ []
+  unfolding did
+  frame-refusal b m e = e
+
+  abbrev given-all : ℕ → Bool
+  given-all s = false
+
+  -- slots that are all given and accepted have their lengths
+  slots-fit : (i : ℕ) (ds : List (List ℕ)) (s : ℕ) (l : Layout) (m : Machine) (tl : Slot-state (ℕ × ℕ)) (f : ℕ → Line (List (ℕ × ℕ)))
+      (ts : List Todo) (xs : List Made) → At cfg m tl f l s → s + length ds ≡ 120 → Follows (slotsTodo given-all s ds ++ ts) m xs
+      → refusals (slotsTodo given-all s ds ++ ts) m xs ≡ [] → SlotsFit l s ds
+  unfolding slotsTodo
+  slots-fit i [] s l m tl f ts xs a n h e = tt
+  slots-fit i (d ∷ ds) s l m tl f ts xs a n h e =
+      let us = slotsTodo given-all (suc s) ds ++ ts in
+      let c = call-follows (slot d) (drain ∷ us) m xs h in
+      let k = due cfg m tl f l s a (omega (arith, n)) in
+      let q = unrefused _ (slot-refusal d m (nil-left _ _ (sym (c .refuses-on) ∙ e))) in
+      let w : wrongLength (getD (l .lengths) s 0) (length d) ≡ false =
+      subst (λ (r : ReceiverFrame). wrongLength (getD (r .layout .lengths) (r .at) 0) (length d) ≡ false) (a .frame)
+      (slot-accepted (m .state) (m .packet) (m .collecting) d k q) in
+      let x = slot-step m tl f l i s d a (omega (arith, n)) w false in
+      let y = item-follows cfg m (slot d) (x .does .state) _ _ l (suc s) (x .item) us xs h in
+      (w, slots-fit i ds (suc s) l _ (x .does .state) _ ts (y .calls) (x .item .at) (omega (arith, n)) (y .follows) (sym (y .refuses-on) ∙ e))
+
+  frames-fit : (i : ℕ) (rs : List Frame) (l : Layout) (m : Machine) (tl : Slot-state (ℕ × ℕ)) (f : ℕ → Line (List (ℕ × ℕ))) (xs : List Made)
+      → At cfg m tl f l 120 → Whole rs → Follows (reading none i rs) m xs → refusals (reading none i rs) m xs ≡ [] → FramesFit rs
+  unfolding reading
+  frames-fit i [] l m tl f xs a n h e = tt
+  frames-fit i (r ∷ rs) l m tl f xs a n h e =
+      let us = reading none (suc i) rs in
+      let ts = slotsTodo given-all 0 (r .slots) ++ us in
+      let b = r .block in
+      let c = call-follows (frame b) ts m xs h in
+      let q = frame-accepted (m .state) b (unrefused _ (frame-refusal b m (nil-left _ _ (sym (c .refuses-on) ∙ e)))) in
+      let z : decodeOf b (cfg .stream) .refusal ≡ 0 = rw (a .tracks .config) at q in
+      let l' = layoutIn (cfg .stream) r in
+      let k = call-left none (frame b) ts m (framed m l') xs (frame-did m tl f l b a z) h in
+      let g = frame-at m tl f l l' a in
+      let w = slots-fit i (r .slots) 0 l' (framed m l') tl f us (k .calls) g (omega (arith, n .0)) (k .follows) (sym (k .refuses-on) ∙ e) in
+      let v = slots-read given-all i (r .slots) 0 l' (framed m l') tl f us (k .calls) g (omega (arith, n .0)) w (k .follows) in (
+        z,
+        n .0,
+        w,
+        frames-fit (suc i) rs l' (v .machine) _ _ (v .left .calls) (v .at) (n .1) (v .left .follows)
+            (sym (v .left .refuses-on) ∙ sym (k .refuses-on) ∙ e),
+      )
