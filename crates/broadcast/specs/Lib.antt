@@ -1,3 +1,6 @@
 -- The claims about broadcasts as a whole.
 pub mod Account
+pub mod Carried
+pub mod Claims
+pub mod Example
 pub mod Specimens
