@@ -1,4 +1,7 @@
 -- The proofs of the claims.
 pub mod Refusals
 pub mod Script
+pub mod Labels
+pub mod Inputs
+pub mod AccountLoss
 pub mod Specimens

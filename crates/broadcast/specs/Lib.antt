@@ -4,4 +4,7 @@ pub mod Drains
 pub mod Pending
 pub mod Calls
 pub mod Frames
+pub mod Carried
+pub mod Claims
+pub mod Example
 pub mod Specimens
