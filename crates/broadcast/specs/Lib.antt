@@ -2,4 +2,5 @@
 pub mod Account
 pub mod Drains
 pub mod Pending
+pub mod SlotClaims
 pub mod Specimens
