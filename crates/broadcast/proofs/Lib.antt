@@ -5,3 +5,8 @@ pub mod Labels
 pub mod Inputs
 pub mod AccountLoss
 pub mod Specimens
+pub mod SlotMemory
+pub mod SlotCut
+pub mod SlotFits
+pub mod Advance
+pub mod SlotReads

@@ -7,4 +7,5 @@ pub mod Frames
 pub mod Carried
 pub mod Claims
 pub mod Example
+pub mod SlotClaims
 pub mod Specimens
