@@ -1,5 +1,6 @@
 -- The claims about broadcasts as a whole.
 pub mod Account
 pub mod Drains
+pub mod PacketClaims
 pub mod Pending
 pub mod Specimens
