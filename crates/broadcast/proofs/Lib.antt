@@ -4,6 +4,13 @@ pub mod Script
 pub mod Labels
 pub mod Inputs
 pub mod AccountLoss
+pub mod EventCount
+pub mod JoinCases
+pub mod JoinStands
+pub mod PacketInput
+pub mod PacketReads
+pub mod Parts
+pub mod QueueTakes
 pub mod Specimens
 pub mod SlotMemory
 pub mod SlotCut
