@@ -59,10 +59,10 @@ module _ (advance : Advance) (packet-does : PacketDoes) (queue-gives : QueueGive
         frame = d .frame;
         owed = d .owed;
         queue-good = rw (d .queue) (empty-good (st .queue) (r .1) (k .queue));
-        cursor-good = d .good;
-        finds = d .gives;
+        cursor-good = d .slot .good;
+        finds = d .slot .gives;
         shows = rw (d .queue, empty-pending (st .queue) (r .1) c (k .queue));
-        leaves = d .leaves;
+        leaves = d .slot .leaves;
         ends = refl;
       })
 
@@ -154,7 +154,7 @@ module _ (advance : Advance) (packet-does : PacketDoes) (queue-gives : QueueGive
   taken-item k fr r w s e g t d =
       let x = reads-settles advance packet-does queue-gives cfg (m .state) fr (m .packet) (m .collecting) tl f r w t d in
       item-by cfg m k _ (w .state) (linesAfter cfg f (w .events)) (map strip (events cfg f (w .events))) l s e
-      (refl, x .state, x .collecting, x .drains, record { tracks = x .tracks; short = d .short; frame = x .frame ∙ g })
+      (refl, x .state, x .collecting, x .drains, record { tracks = x .tracks; short = d .slot .short; frame = x .frame ∙ g })
 
   pub own-item : (a : A) (s : ℕ) (d : List ℕ) → At cfg m tl f l s → s < 120 → getD (l .own) s false ≡ true
       → wrongLength (getD (l .lengths) s 0) (length d) ≡ false
@@ -194,16 +194,17 @@ module _ (advance : Advance) (packet-does : PacketDoes) (queue-gives : QueueGive
   unfolding counted cursorPending cursorLeaves
   other-reads k h =
       record {
-        gives = rw (k .cursor);
-        leaves = rw (k .cursor) (k .held);
-        short = h;
-        good = rw (k .cursor)
-            (record {
-              packet-inside = omega arith;
-              slot-inside = λ e. absurd (false≢true e);
-              held-none = λ e. absurd (false≢true e);
-              placeless = λ e. (refl, refl);
-            });
+        slot = record {
+          gives = rw (k .cursor);
+          leaves = rw (k .cursor) (k .held);
+          short = h;
+          good = rw (k .cursor) (record {
+            packet-inside = omega arith;
+            slot-inside = λ e. absurd (false≢true e);
+            held-none = λ e. absurd (false≢true e);
+            placeless = λ e. (refl, refl);
+          });
+        };
         same-length = refl;
         config = refl;
         frame = refl;

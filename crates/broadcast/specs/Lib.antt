@@ -1,12 +1,12 @@
--- The claims about broadcasts as a whole.
+-- The account of a broadcast, the reading of it by calls, and the claims about both.
+pub mod Specimens
 pub mod Account
-pub mod Drains
-pub mod PacketClaims
-pub mod Pending
-pub mod Calls
-pub mod Frames
 pub mod Carried
 pub mod Claims
 pub mod Example
+pub mod Drains
+pub mod Pending
 pub mod SlotClaims
-pub mod Specimens
+pub mod PacketClaims
+pub mod Calls
+pub mod Frames
