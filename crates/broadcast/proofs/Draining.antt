@@ -27,8 +27,11 @@ use Rattle.receiver.specs.Next.{Out, onwards, takenBy, readOn, nextOf, advanced
 use Rattle.broadcast.specs.Account.{Read, readOf, afterRead, events, linesAfter}
 use Rattle.broadcast.specs.Drains.{Shown, note, unit, strip, shown, Drains, stops, notes, units, HeldIs, Tracks}
 use Rattle.broadcast.specs.Pending.{bare, Found as Waiting, slot-notes, a-packet, cursorPending, cursorLeaves, queuePending}
-use Rattle.broadcast.specs.SlotClaims.{CursorGood, Advance, Advances}
-use Rattle.broadcast.specs.PacketClaims.{QueueEmpty, QueueGood, LinesAre, PacketDoes, QueueGives, Takes}
+use Rattle.broadcast.specs.SlotClaims.{CursorGood, Advances}
+use Rattle.broadcast.specs.PacketClaims.{QueueEmpty, QueueGood, LinesAre, Takes}
+use Rattle.broadcast.proofs.Advance.{advance}
+use Rattle.broadcast.proofs.PacketReads.{packet-does}
+use Rattle.broadcast.proofs.QueueTakes.{queue-gives}
 
 -- what a list of slot events is, by what is found of it
 module _ {A : Type 0} where
@@ -99,7 +102,7 @@ pub record Settles {A : Type 0} (cfg : Config) (fr : Frame) (p : List ℕ) (tl :
   pub frame : state .frame ≡ fr
   pub tracks : Tracks cfg state p collecting tl f
 
-module _ (advance : Advance) (packet-does : PacketDoes) (queue-gives : QueueGives) {A : Type 0} (cfg : Config) (fr : Frame) (p : List ℕ)
+module _ {A : Type 0} (cfg : Config) (fr : Frame) (p : List ℕ)
     (long : 21433 ≤ length p) (tl : Slot-state A) (f : ℕ → Line (List A)) where
   abbrev Told : List Shown → Event → State → List ℕ → Type 0
   Told es Nothing st c = Paid cfg fr p es tl f st c

@@ -23,8 +23,9 @@ use Rattle.receiver.specs.Slot.{counted, ownOf, slotOf, lostSlotOf, refusalOf, 
 use Rattle.broadcast.specs.Account.{events, linesAfter}
 use Rattle.broadcast.specs.Drains.{Shown, strip, Drains, Tracks}
 use Rattle.broadcast.specs.Pending.{cursorPending, cursorLeaves, queuePending}
-use Rattle.broadcast.specs.SlotClaims.{Short, Reads, OwnSlot, LostSlot, LostFrame, Advance, slotFrom}
-use Rattle.broadcast.specs.PacketClaims.{QueueEmpty, GiveGood, QueueGood, LinesAre, PacketDoes, QueueGives}
+use Rattle.broadcast.specs.SlotClaims.{Short, Reads}
+use Rattle.broadcast.specs.PacketClaims.{QueueEmpty, QueueGood}
+use Rattle.broadcast.proofs.SlotReads.{own-slot, lost-slot as lost-slot-reads, lost-frame as lost-frame-reads}
 use Rattle.broadcast.specs.Frames.{slotAt}
 use Rattle.broadcast.specs.Calls.{Machine, Call, frame, lost-frame, slot, lost-slot, next, accepted, Did, did}
 use Rattle.broadcast.proofs.Draining.{Owes, Settles, settle}
@@ -37,14 +38,14 @@ empty-pending q p c e = rw (e .0, e .1, e .2)
 empty-good : (q : Queue) (p : List ℕ) → QueueEmpty q → QueueGood q p
 empty-good q p e = rw (e .2) tt
 
-module _ (advance : Advance) (packet-does : PacketDoes) (queue-gives : QueueGives) {A : Type 0} (cfg : Config) where
+module _ {A : Type 0} (cfg : Config) where
   -- a slot was taken, and next is owed
   reads-settles : (st : State) (fr : Frame) (p c : List ℕ) (tl : Slot-state A) (f : ℕ → Line (List A)) (r : State × List ℕ)
       (w : Stepped A) → Tracks cfg st p c tl f → Reads st fr p r w
       → Settles cfg fr (r .1) (w .state) (linesAfter cfg f (w .events)) (map strip (events cfg f (w .events))) (r .0) c
   reads-settles st fr p c tl f r w k d =
       let long : 21433 ≤ length (r .1) = rw (d .same-length) (k .packet-long) in
-      settle advance packet-does queue-gives cfg fr (r .1) long (w .state) (linesAfter cfg f (w .events))
+      settle cfg fr (r .1) long (w .state) (linesAfter cfg f (w .events))
       (map strip (events cfg f (w .events))) (r .0) c
       (record {
         waiting = w .events;
@@ -139,8 +140,7 @@ next-due st l s e = rw (e, add-one)
 abbrev pointersIn : Layout → ℕ → Pointers
 pointersIn l s = getD (l .pointers) s (record { 0 = 0; 1 = 0 })
 
-module _ (advance : Advance) (packet-does : PacketDoes) (queue-gives : QueueGives) (own-slot : OwnSlot) (lost-slot-reads : LostSlot)
-    (lost-frame-reads : LostFrame) {A : Type 0} (cfg : Config) (m : Machine) (tl : Slot-state A) (f : ℕ → Line (List A)) (l : Layout) where
+module _ {A : Type 0} (cfg : Config) (m : Machine) (tl : Slot-state A) (f : ℕ → Line (List A)) (l : Layout) where
   -- the account after slot events of w
   abbrev Item-of : Call → Stepped A → ℕ → Type 0
   Item-of k w s = Item cfg m k (w .state) (linesAfter cfg f (w .events)) (map strip (events cfg f (w .events))) l s
@@ -152,7 +152,7 @@ module _ (advance : Advance) (packet-does : PacketDoes) (queue-gives : QueueGive
       → Item-of k w s
   unfolding Item-by
   taken-item k fr r w s e g t d =
-      let x = reads-settles advance packet-does queue-gives cfg (m .state) fr (m .packet) (m .collecting) tl f r w t d in
+      let x = reads-settles cfg (m .state) fr (m .packet) (m .collecting) tl f r w t d in
       item-by cfg m k _ (w .state) (linesAfter cfg f (w .events)) (map strip (events cfg f (w .events))) l s e
       (refl, x .state, x .collecting, x .drains, record { tracks = x .tracks; short = d .slot .short; frame = x .frame ∙ g })
 

@@ -20,3 +20,5 @@ pub mod EventCount
 pub mod Draining
 pub mod Items
 pub mod Reading
+pub mod Arrivals
+pub mod Demand3

@@ -21,8 +21,6 @@ use Rattle.receiver.specs.Frame.{frameBusy, frameOf}
 use Rattle.receiver.specs.Slot.{wrongLength, refusalOf, slotOf, slotTaken, dueLength, dueOwn, duePointers}
 use Rattle.broadcast.specs.Account.{events, linesAfter, afterEvent}
 use Rattle.broadcast.specs.Drains.{Shown, strip}
-use Rattle.broadcast.specs.SlotClaims.{OwnSlot, LostSlot, LostFrame, Advance}
-use Rattle.broadcast.specs.PacketClaims.{PacketDoes, QueueGives}
 use Rattle.broadcast.specs.Calls.{Machine, Call, frame, slot, lost-slot, lost-frame, accepted, refused, numbered, Did, did, Todo, call, drain, Made, own, shows, added, Follows, allShown, refusals, noteShown, refusalIn, Answer}
 use Rattle.broadcast.specs.Frames.{Frame, Whole, Damage, none, slotCall, slotsTodo, frameTodo, reading, slotAt, ifOwn, arriving, slotsArrive, layoutIn, frameArrives, arrivals}
 use Rattle.broadcast.proofs.Script.{Left, Makes, call-follows, drain-follows, call-made, drain-made}
@@ -87,6 +85,13 @@ abbrev pub SlotsFit : Layout → ℕ → List (List ℕ) → Type 0
 SlotsFit l s [] = Unit {0}
 SlotsFit l s (d ∷ ds) = (wrongLength (getD (l .lengths) s 0) (length d) ≡ false) × SlotsFit l (suc s) ds
 
+-- frames whose blocks are accepted and whose slots have their lengths
+abbrev pub FramesFit : ℕ → List Frame → Type 0
+FramesFit stream [] = Unit {0}
+FramesFit stream (r ∷ rs) =
+    (decodeOf (r .block) stream .refusal ≡ 0) × (length (r .slots) ≡ 120) × SlotsFit (layoutIn stream r) 0 (r .slots)
+    × FramesFit stream rs
+
 -- what a reading leaves: the machine, and the state of the account after the arrivals xs
 pub record Went {A : Type 0} (cfg : Config) (tl : Slot-state A) (f : ℕ → Line (List A)) (xs : List (Arrival A)) (ts : List Todo)
     (all : List Shown) (ref : List ℕ) (l : Layout) : Type 0 where
@@ -94,8 +99,7 @@ pub record Went {A : Type 0} (cfg : Config) (tl : Slot-state A) (f : ℕ → Lin
   pub at : At cfg machine (stateAfter tl xs) (linesAfter cfg f (run tl xs)) l 120
   pub left : Left ts machine (map strip (events cfg f (run tl xs))) [] all ref
 
-module _ (advance : Advance) (packet-does : PacketDoes) (queue-gives : QueueGives) (own-slot : OwnSlot) (lost-slot-reads : LostSlot)
-    (lost-frame-reads : LostFrame) (cfg : Config) where
+module _ (cfg : Config) where
   -- a slot's call, and what arrives of it
   record Step (m : Machine) (tl : Slot-state (ℕ × ℕ)) (f : ℕ → Line (List (ℕ × ℕ))) (l : Layout) (s : ℕ) (k : Call)
       (arr : List (Arrival (ℕ × ℕ))) : Type 0 where
@@ -112,14 +116,14 @@ module _ (advance : Advance) (packet-does : PacketDoes) (queue-gives : QueueGive
     step-by true true o =
         record {
           does = step tl lost;
-          item = lost-item advance packet-does queue-gives own-slot lost-slot-reads lost-frame-reads cfg m tl f l s a h o;
+          item = lost-item cfg m tl f l s a h o;
           runs = λ xs. refl;
           ends = λ xs. refl;
         }
     step-by true false o =
         record {
           does = record { state = tl; events = [] };
-          item = other-lost-item advance packet-does queue-gives own-slot lost-slot-reads lost-frame-reads cfg m tl f l s a h o;
+          item = other-lost-item cfg m tl f l s a h o;
           runs = λ xs. refl;
           ends = λ xs. refl;
         }
@@ -127,14 +131,14 @@ module _ (advance : Advance) (packet-does : PacketDoes) (queue-gives : QueueGive
         record {
           does = step tl (given (i, s) (slotAt l s d));
           item =
-              own-item advance packet-does queue-gives own-slot lost-slot-reads lost-frame-reads cfg m tl f l (i, s) s d a h o w;
+              own-item cfg m tl f l (i, s) s d a h o w;
           runs = λ xs. refl;
           ends = λ xs. refl;
         }
     step-by false false o =
         record {
           does = record { state = tl; events = [] };
-          item = other-item advance packet-does queue-gives own-slot lost-slot-reads lost-frame-reads cfg m tl f l s d a h o w;
+          item = other-item cfg m tl f l s d a h o w;
           runs = λ xs. refl;
           ends = λ xs. refl;
         }
@@ -211,7 +215,7 @@ module _ (advance : Advance) (packet-does : PacketDoes) (queue-gives : QueueGive
       (slots-made gone i ds (suc s) l _ (x .does .state) _ ts (x .item .at) (omega (arith, n)) (w .1) h)
 
   -- nothing is prescribed any more: only added calls stand there
-  nothing-left : (m : Machine) (xs : List Made) → Follows [] m xs → (allShown [] m xs ≡ []) × (refusals [] m xs ≡ [])
+  pub nothing-left : (m : Machine) (xs : List Made) → Follows [] m xs → (allShown [] m xs ≡ []) × (refusals [] m xs ≡ [])
   nothing-left m [] h = (refl, refl)
   nothing-left m (own k ∷ xs) h = absurd (h .0)
   nothing-left m (shows ∷ xs) h = absurd (h .0)
@@ -254,13 +258,6 @@ module _ (advance : Advance) (packet-does : PacketDoes) (queue-gives : QueueGive
         short = a .short;
         frame = refl;
       }
-
-  -- frames whose blocks are accepted and whose slots have their lengths
-  abbrev FramesFit : List Frame → Type 0
-  FramesFit [] = Unit {0}
-  FramesFit (r ∷ rs) =
-      (decodeOf (r .block) (cfg .stream) .refusal ≡ 0) × (length (r .slots) ≡ 120)
-      × SlotsFit (layoutIn (cfg .stream) r) 0 (r .slots) × FramesFit rs
 
   -- what a reading shows, and that none of its own calls is refused
   pub record ReadsAs (all : List Shown) (ref : List ℕ) (es : List Shown) : Type 0 where
@@ -313,7 +310,7 @@ module _ (advance : Advance) (packet-does : PacketDoes) (queue-gives : QueueGive
       frame-read true e n w q =
           let us = reading d (suc i) rs in
           let y = step tl lost in
-          let x = lost-frame-item advance packet-does queue-gives own-slot lost-slot-reads lost-frame-reads cfg m tl f l a in
+          let x = lost-frame-item cfg m tl f l a in
           let v =
           went-on m lost-frame tl f l 120 y [] (lost ∷ []) us us xs x refl refl q
           (λ ys h.
@@ -334,7 +331,7 @@ module _ (advance : Advance) (packet-does : PacketDoes) (queue-gives : QueueGive
           record { shown-all = c .shows-on ∙ g .shown-all; refused-none = c .refuses-on ∙ g .refused-none }
 
     pub frames-read : (i : ℕ) (rs : List Frame) (l : Layout) (m : Machine) (tl : Slot-state (ℕ × ℕ)) (f : ℕ → Line (List (ℕ × ℕ)))
-        (xs : List Made) → At cfg m tl f l 120 → FramesFit rs → Follows (reading d i rs) m xs → Reads-all i rs m tl f xs
+        (xs : List Made) → At cfg m tl f l 120 → FramesFit (cfg .stream) rs → Follows (reading d i rs) m xs → Reads-all i rs m tl f xs
     unfolding reading arrivals run events
     frames-read i [] l m tl f xs a w h =
         let n = nothing-left m xs h in
@@ -354,7 +351,7 @@ module _ (advance : Advance) (packet-does : PacketDoes) (queue-gives : QueueGive
         → ((l' : Layout) (n : Machine) (u : Slot-state (ℕ × ℕ)) (g : ℕ → Line (List (ℕ × ℕ))) → At cfg n u g l' 120 → Makes us n)
         → Makes (frameTodo gone (d .slots i) r ++ us) m
     frame-made i r us l m tl f a true e n w h =
-        let x = lost-frame-item advance packet-does queue-gives own-slot lost-slot-reads lost-frame-reads cfg m tl f l a in
+        let x = lost-frame-item cfg m tl f l a in
         item-made cfg m lost-frame _ _ _ l 120 x us (h l _ _ _ (x .at))
     frame-made i r us l m tl f a false e n w h =
         let l' = layoutIn (cfg .stream) r in
@@ -362,7 +359,7 @@ module _ (advance : Advance) (packet-does : PacketDoes) (queue-gives : QueueGive
         (slots-made (d .slots i) i (r .slots) 0 l' (framed m l') tl f us (frame-at m tl f l l' a) (omega (arith, n)) w (h l'))
 
     pub frames-made : (i : ℕ) (rs : List Frame) (l : Layout) (m : Machine) (tl : Slot-state (ℕ × ℕ)) (f : ℕ → Line (List (ℕ × ℕ)))
-        → At cfg m tl f l 120 → FramesFit rs → Makes (reading d i rs) m
+        → At cfg m tl f l 120 → FramesFit (cfg .stream) rs → Makes (reading d i rs) m
     unfolding reading
     frames-made i [] l m tl f a w = record { calls = []; follows = refl }
     frames-made i (r ∷ rs) l m tl f a w =
@@ -370,16 +367,16 @@ module _ (advance : Advance) (packet-does : PacketDoes) (queue-gives : QueueGive
         (λ l' n u g b. frames-made (suc i) rs l' n u g b (w .3))
 
   -- what an accepted call tells
-  nil-left : {B : Type 0} (a b : List B) → a ++ b ≡ [] → a ≡ []
+  pub nil-left : {B : Type 0} (a b : List B) → a ++ b ≡ [] → a ≡ []
   nil-left [] b e = refl
   nil-left (x ∷ a) b e = let z : _≡_ {A = ℕ} 0 1 = cc in absurd (omega arith)
 
-  nil-right : {B : Type 0} (a b : List B) → a ++ b ≡ [] → b ≡ []
+  pub nil-right : {B : Type 0} (a b : List B) → a ++ b ≡ [] → b ≡ []
   nil-right [] b e = e
   nil-right (x ∷ a) b e = let z : _≡_ {A = ℕ} 0 1 = cc in absurd (omega arith)
 
   -- a call that answers a number, and is not refused
-  unrefused : (n : ℕ) → refusalIn (numbered n) ≡ [] → n ≡ 0
+  pub unrefused : (n : ℕ) → refusalIn (numbered n) ≡ [] → n ≡ 0
   unrefused n e = go (eqb n 0) refl e
     where
       go : (b : Bool) → eqb n 0 ≡ b → refusalIn (cond b accepted (refused n)) ≡ [] → n ≡ 0
@@ -414,7 +411,7 @@ module _ (advance : Advance) (packet-does : PacketDoes) (queue-gives : QueueGive
       go false q = refl
 
   -- the refusal of a slot's or a frame's call is its number
-  slot-refusal : (d : List ℕ) (m : Machine) → refusalIn (did (slot d) m .answer) ≡ []
+  pub slot-refusal : (d : List ℕ) (m : Machine) → refusalIn (did (slot d) m .answer) ≡ []
       → refusalIn (numbered (slotOf (m .state) (m .packet) (m .collecting) d .0 .refusal)) ≡ []
   unfolding did
   slot-refusal d m e = e
@@ -445,8 +442,8 @@ module _ (advance : Advance) (packet-does : PacketDoes) (queue-gives : QueueGive
       let y = item-follows cfg m (slot d) (x .does .state) _ _ l (suc s) (x .item) us xs h in
       (w, slots-fit i ds (suc s) l _ (x .does .state) _ ts (y .calls) (x .item .at) (omega (arith, n)) (y .follows) (sym (y .refuses-on) ∙ e))
 
-  frames-fit : (i : ℕ) (rs : List Frame) (l : Layout) (m : Machine) (tl : Slot-state (ℕ × ℕ)) (f : ℕ → Line (List (ℕ × ℕ))) (xs : List Made)
-      → At cfg m tl f l 120 → Whole rs → Follows (reading none i rs) m xs → refusals (reading none i rs) m xs ≡ [] → FramesFit rs
+  pub frames-fit : (i : ℕ) (rs : List Frame) (l : Layout) (m : Machine) (tl : Slot-state (ℕ × ℕ)) (f : ℕ → Line (List (ℕ × ℕ))) (xs : List Made)
+      → At cfg m tl f l 120 → Whole rs → Follows (reading none i rs) m xs → refusals (reading none i rs) m xs ≡ [] → FramesFit (cfg .stream) rs
   unfolding reading
   frames-fit i [] l m tl f xs a n h e = tt
   frames-fit i (r ∷ rs) l m tl f xs a n h e =

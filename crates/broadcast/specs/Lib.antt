@@ -10,3 +10,4 @@ pub mod SlotClaims
 pub mod PacketClaims
 pub mod Calls
 pub mod Frames
+pub mod Demand3
