@@ -94,14 +94,14 @@ FramesFit stream (r ∷ rs) =
 
 -- what a reading leaves: the machine, and the state of the account after the arrivals xs
 pub record Went {A : Type 0} (cfg : Config) (tl : Slot-state A) (f : ℕ → Line (List A)) (xs : List (Arrival A)) (ts : List Todo)
-    (all : List Shown) (ref : List ℕ) (l : Layout) : Type 0 where
+    (all : List Shown) (ref : List ℕ) (l : Layout) (n : ℕ) : Type 0 where
   pub machine : Machine
-  pub at : At cfg machine (stateAfter tl xs) (linesAfter cfg f (run tl xs)) l 120
+  pub at : At cfg machine (stateAfter tl xs) (linesAfter cfg f (run tl xs)) l n
   pub left : Left ts machine (map strip (events cfg f (run tl xs))) [] all ref
 
 module _ (cfg : Config) where
   -- a slot's call, and what arrives of it
-  record Step (m : Machine) (tl : Slot-state (ℕ × ℕ)) (f : ℕ → Line (List (ℕ × ℕ))) (l : Layout) (s : ℕ) (k : Call)
+  pub record Step (m : Machine) (tl : Slot-state (ℕ × ℕ)) (f : ℕ → Line (List (ℕ × ℕ))) (l : Layout) (s : ℕ) (k : Call)
       (arr : List (Arrival (ℕ × ℕ))) : Type 0 where
     pub does : Stepped (ℕ × ℕ)
     pub item : Item cfg m k (does .state) (linesAfter cfg f (does .events)) (map strip (events cfg f (does .events))) l (suc s)
@@ -109,45 +109,46 @@ module _ (cfg : Config) where
     pub ends : (xs : List (Arrival (ℕ × ℕ))) → stateAfter tl (arr ++ xs) ≡ stateAfter (does .state) xs
 
   module _ (m : Machine) (tl : Slot-state (ℕ × ℕ)) (f : ℕ → Line (List (ℕ × ℕ))) (l : Layout) (i s : ℕ) (d : List ℕ)
-      (a : At cfg m tl f l s) (h : s < 120) (w : wrongLength (getD (l .lengths) s 0) (length d) ≡ false) where
-    step-by : (gone own : Bool) → getD (l .own) s false ≡ own
+      (a : At cfg m tl f l s) (h : s < 120) where
+    step-by : (gone own : Bool) → (gone ≡ false → wrongLength (getD (l .lengths) s 0) (length d) ≡ false) → getD (l .own) s false ≡ own
         → Step m tl f l s (slotCall gone d) (cond own (arriving gone (i, s) (slotAt l s d) ∷ []) [])
     unfolding run stateAfter
-    step-by true true o =
+    step-by true true w o =
         record {
           does = step tl lost;
           item = lost-item cfg m tl f l s a h o;
           runs = λ xs. refl;
           ends = λ xs. refl;
         }
-    step-by true false o =
+    step-by true false w o =
         record {
           does = record { state = tl; events = [] };
           item = other-lost-item cfg m tl f l s a h o;
           runs = λ xs. refl;
           ends = λ xs. refl;
         }
-    step-by false true o =
+    step-by false true w o =
         record {
           does = step tl (given (i, s) (slotAt l s d));
           item =
-              own-item cfg m tl f l (i, s) s d a h o w;
+              own-item cfg m tl f l (i, s) s d a h o (w refl);
           runs = λ xs. refl;
           ends = λ xs. refl;
         }
-    step-by false false o =
+    step-by false false w o =
         record {
           does = record { state = tl; events = [] };
-          item = other-item cfg m tl f l s d a h o w;
+          item = other-item cfg m tl f l s d a h o (w refl);
           runs = λ xs. refl;
           ends = λ xs. refl;
         }
 
-    slot-step : (gone : Bool) → Step m tl f l s (slotCall gone d) (ifOwn l s (arriving gone (i, s) (slotAt l s d)))
-    slot-step gone = step-by gone (getD (l .own) s false) refl
+    pub slot-step : (gone : Bool) → (gone ≡ false → wrongLength (getD (l .lengths) s 0) (length d) ≡ false)
+        → Step m tl f l s (slotCall gone d) (ifOwn l s (arriving gone (i, s) (slotAt l s d)))
+    slot-step gone w = step-by gone (getD (l .own) s false) w refl
 
   -- what was shown for slot events y, and then for the arrivals xs
-  shown-on : (tl : Slot-state (ℕ × ℕ)) (f : ℕ → Line (List (ℕ × ℕ))) (y : Stepped (ℕ × ℕ)) (as' xs : List (Arrival (ℕ × ℕ)))
+  pub shown-on : (tl : Slot-state (ℕ × ℕ)) (f : ℕ → Line (List (ℕ × ℕ))) (y : Stepped (ℕ × ℕ)) (as' xs : List (Arrival (ℕ × ℕ)))
       → run tl as' ≡ y .events ++ run (y .state) xs
       → map strip (events cfg f (run tl as'))
       ≡ map strip (events cfg f (y .events)) ++ map strip (events cfg (linesAfter cfg f (y .events)) (run (y .state) xs))
@@ -156,17 +157,17 @@ module _ (cfg : Config) where
       ∙ map-append strip (events cfg f (y .events)) (events cfg (linesAfter cfg f (y .events)) (run (y .state) xs))
 
   -- an item, and then the rest of a reading
-  went-on : (m : Machine) (k : Call) (tl : Slot-state (ℕ × ℕ)) (f : ℕ → Line (List (ℕ × ℕ))) (l : Layout) (s : ℕ) (y : Stepped (ℕ × ℕ))
-      (as' as'' : List (Arrival (ℕ × ℕ))) (us ts : List Todo) (xs : List Made)
+  pub went-on : (m : Machine) (k : Call) (tl : Slot-state (ℕ × ℕ)) (f : ℕ → Line (List (ℕ × ℕ))) (l : Layout) (s : ℕ) (y : Stepped (ℕ × ℕ))
+      (as' as'' : List (Arrival (ℕ × ℕ))) (us ts : List Todo) (xs : List Made) (n : ℕ)
       (i : Item cfg m k (y .state) (linesAfter cfg f (y .events)) (map strip (events cfg f (y .events))) l s)
       → run tl as'' ≡ y .events ++ run (y .state) as' → stateAfter tl as'' ≡ stateAfter (y .state) as'
       → Follows (call k ∷ drain ∷ us) m xs
       → ((ys : List Made) → Follows us (record { state = i .state; packet = did k m .machine .packet; collecting = i .collecting }) ys
       → Went cfg (y .state) (linesAfter cfg f (y .events)) as' ts
       (allShown us (record { state = i .state; packet = did k m .machine .packet; collecting = i .collecting }) ys)
-      (refusals us (record { state = i .state; packet = did k m .machine .packet; collecting = i .collecting }) ys) l)
-      → Went cfg tl f as'' ts (allShown (call k ∷ drain ∷ us) m xs) (refusals (call k ∷ drain ∷ us) m xs) l
-  went-on m k tl f l s y as' as'' us ts xs i e g h rest =
+      (refusals us (record { state = i .state; packet = did k m .machine .packet; collecting = i .collecting }) ys) l n)
+      → Went cfg tl f as'' ts (allShown (call k ∷ drain ∷ us) m xs) (refusals (call k ∷ drain ∷ us) m xs) l n
+  went-on m k tl f l s y as' as'' us ts xs n i e g h rest =
       let es = map strip (events cfg f (y .events)) in
       let q = item-follows cfg m k (y .state) (linesAfter cfg f (y .events)) es l s i us xs h in
       let r = rest (q .calls) (q .follows) in
@@ -187,7 +188,7 @@ module _ (cfg : Config) where
   slots-read : (gone : ℕ → Bool) (i : ℕ) (ds : List (List ℕ)) (s : ℕ) (l : Layout) (m : Machine) (tl : Slot-state (ℕ × ℕ))
       (f : ℕ → Line (List (ℕ × ℕ))) (ts : List Todo) (xs : List Made) → At cfg m tl f l s → s + length ds ≡ 120 → SlotsFit l s ds
       → Follows (slotsTodo gone s ds ++ ts) m xs
-      → Went cfg tl f (slotsArrive l gone i s ds) ts (allShown (slotsTodo gone s ds ++ ts) m xs) (refusals (slotsTodo gone s ds ++ ts) m xs) l
+      → Went cfg tl f (slotsArrive l gone i s ds) ts (allShown (slotsTodo gone s ds ++ ts) m xs) (refusals (slotsTodo gone s ds ++ ts) m xs) l 120
   unfolding slotsTodo slotsArrive run stateAfter events linesAfter
   slots-read gone i [] s l m tl f ts xs a n w h =
       record {
@@ -196,10 +197,10 @@ module _ (cfg : Config) where
         left = record { calls = xs; follows = h; shows-on = refl; refuses-on = refl };
       }
   slots-read gone i (d ∷ ds) s l m tl f ts xs a n w h =
-      let x = slot-step m tl f l i s d a (omega (arith, n)) (w .0) (gone s) in
+      let x = slot-step m tl f l i s d a (omega (arith, n)) (gone s) (λ z. w .0) in
       let y = x .does in
       let tail = slotsArrive l gone i (suc s) ds in
-      went-on m (slotCall (gone s) d) tl f l (suc s) y tail _ (slotsTodo gone (suc s) ds ++ ts) ts xs (x .item) (x .runs tail) (x .ends tail) h
+      went-on m (slotCall (gone s) d) tl f l (suc s) y tail _ (slotsTodo gone (suc s) ds ++ ts) ts xs 120 (x .item) (x .runs tail) (x .ends tail) h
       (λ ys q. slots-read gone i ds (suc s) l _ (y .state) (linesAfter cfg f (y .events)) ts ys (x .item .at) (omega (arith, n)) (w .1) q)
 
   -- the same calls can be made
@@ -210,7 +211,7 @@ module _ (cfg : Config) where
   unfolding slotsTodo
   slots-made gone i [] s l m tl f ts a n w h = h m tl f (subst (λ (k : ℕ). At cfg m tl f l k) (omega (arith, n)) a)
   slots-made gone i (d ∷ ds) s l m tl f ts a n w h =
-      let x = slot-step m tl f l i s d a (omega (arith, n)) (w .0) (gone s) in
+      let x = slot-step m tl f l i s d a (omega (arith, n)) (gone s) (λ z. w .0) in
       item-made cfg m (slotCall (gone s) d) (x .does .state) _ _ l (suc s) (x .item) (slotsTodo gone (suc s) ds ++ ts)
       (slots-made gone i ds (suc s) l _ (x .does .state) _ ts (x .item .at) (omega (arith, n)) (w .1) h)
 
@@ -222,7 +223,7 @@ module _ (cfg : Config) where
   nothing-left m (added k ∷ xs) h = nothing-left (did k m .machine) xs (h .1)
 
   -- a frame's call
-  abbrev framed : Machine → Layout → Machine
+  abbrev pub framed : Machine → Layout → Machine
   framed m l =
       record {
         state = withFrame (m .state) (record { layout = l; at = 0 });
@@ -230,7 +231,7 @@ module _ (cfg : Config) where
         collecting = m .collecting;
       }
 
-  frame-did : (m : Machine) (tl : Slot-state (ℕ × ℕ)) (f : ℕ → Line (List (ℕ × ℕ))) (l : Layout) (b : List ℕ) → At cfg m tl f l 120
+  pub frame-did : (m : Machine) (tl : Slot-state (ℕ × ℕ)) (f : ℕ → Line (List (ℕ × ℕ))) (l : Layout) (b : List ℕ) → At cfg m tl f l 120
       → decodeOf b (cfg .stream) .refusal ≡ 0
       → did (frame b) m ≡ record { answer = accepted; machine = framed m (decodeOf b (cfg .stream) .layout) }
   unfolding did frameOf frameBusy
@@ -238,7 +239,7 @@ module _ (cfg : Config) where
       let n = tmcc-accepted b (cfg .stream) e .size in
       rw (eq-eqb _ _ n, a .frame, a .tracks .paid, a .tracks .config, e)
 
-  frame-at : (m : Machine) (tl : Slot-state (ℕ × ℕ)) (f : ℕ → Line (List (ℕ × ℕ))) (l l' : Layout) → At cfg m tl f l 120
+  pub frame-at : (m : Machine) (tl : Slot-state (ℕ × ℕ)) (f : ℕ → Line (List (ℕ × ℕ))) (l l' : Layout) → At cfg m tl f l 120
       → At cfg (framed m l') tl f l' 0
   frame-at m tl f l l' a =
       let k = a .tracks in
@@ -272,7 +273,7 @@ module _ (cfg : Config) where
 
     -- the frames after the arrivals as' have been read
     read-on : (i : ℕ) (rs : List Frame) (tl : Slot-state (ℕ × ℕ)) (f : ℕ → Line (List (ℕ × ℕ))) (as' : List (Arrival (ℕ × ℕ)))
-        (all : List Shown) (ref : List ℕ) (l : Layout) (w : Went cfg tl f as' (reading d i rs) all ref l)
+        (all : List Shown) (ref : List ℕ) (l : Layout) (w : Went cfg tl f as' (reading d i rs) all ref l 120)
         → Reads-all i rs (w .machine) (stateAfter tl as') (linesAfter cfg f (run tl as')) (w .left .calls)
         → ReadsAs all ref (map strip (events cfg f (run tl (as' ++ arrivals (cfg .stream) d i rs))))
     read-on i rs tl f as' all ref l w h =
@@ -285,7 +286,7 @@ module _ (cfg : Config) where
         }
 
     -- an accepted call that next is not owed after
-    call-left : (k : Call) (ts : List Todo) (m m' : Machine) (xs : List Made) → did k m ≡ record { answer = accepted; machine = m' }
+    pub call-left : (k : Call) (ts : List Todo) (m m' : Machine) (xs : List Made) → did k m ≡ record { answer = accepted; machine = m' }
         → Follows (call k ∷ ts) m xs → Left ts m' [] [] (allShown (call k ∷ ts) m xs) (refusals (call k ∷ ts) m xs)
     call-left k ts m m' xs e h =
         subst
@@ -312,7 +313,7 @@ module _ (cfg : Config) where
           let y = step tl lost in
           let x = lost-frame-item cfg m tl f l a in
           let v =
-          went-on m lost-frame tl f l 120 y [] (lost ∷ []) us us xs x refl refl q
+          went-on m lost-frame tl f l 120 y [] (lost ∷ []) us us xs 120 x refl refl q
           (λ ys h.
           record {
             machine = record { state = x .state; packet = did lost-frame m .machine .packet; collecting = x .collecting };
@@ -383,7 +384,7 @@ module _ (cfg : Config) where
       go true q h = eqb-true n 0 q
       go false q h = let z : _≡_ {A = ℕ} 0 1 = cc in absurd (omega arith)
 
-  frame-accepted : (st : State) (b : List ℕ) → frameOf st b .refusal ≡ 0 → decodeOf b (st .config .stream) .refusal ≡ 0
+  pub frame-accepted : (st : State) (b : List ℕ) → frameOf st b .refusal ≡ 0 → decodeOf b (st .config .stream) .refusal ≡ 0
   unfolding frameOf
   frame-accepted st b e = go (eqb (length b) 1178) (frameBusy st) (eqb (decodeOf b (st .config .stream) .refusal) 0) refl e
     where
@@ -401,7 +402,7 @@ module _ (cfg : Config) where
       go false y z q h = absurd (omega arith)
 
   -- a slot that is due and is accepted has its length
-  slot-accepted : (st : State) (p c d : List ℕ) → refusalOf st (length p) (length c) ≡ 0 → slotOf st p c d .0 .refusal ≡ 0
+  pub slot-accepted : (st : State) (p c d : List ℕ) → refusalOf st (length p) (length c) ≡ 0 → slotOf st p c d .0 .refusal ≡ 0
       → wrongLength (dueLength st) (length d) ≡ false
   unfolding slotOf
   slot-accepted st p c d e h = go (wrongLength (dueLength st) (length d)) (rw e at h)
@@ -416,7 +417,7 @@ module _ (cfg : Config) where
   unfolding did
   slot-refusal d m e = e
 
-  frame-refusal : (b : List ℕ) (m : Machine) → refusalIn (did (frame b) m .answer) ≡ []
+  pub frame-refusal : (b : List ℕ) (m : Machine) → refusalIn (did (frame b) m .answer) ≡ []
       → refusalIn (numbered (frameOf (m .state) b .refusal)) ≡ []
   unfolding did
   frame-refusal b m e = e
@@ -438,7 +439,7 @@ module _ (cfg : Config) where
       let w : wrongLength (getD (l .lengths) s 0) (length d) ≡ false =
       subst (λ (r : ReceiverFrame). wrongLength (getD (r .layout .lengths) (r .at) 0) (length d) ≡ false) (a .frame)
       (slot-accepted (m .state) (m .packet) (m .collecting) d k q) in
-      let x = slot-step m tl f l i s d a (omega (arith, n)) w false in
+      let x = slot-step m tl f l i s d a (omega (arith, n)) false (λ z. w) in
       let y = item-follows cfg m (slot d) (x .does .state) _ _ l (suc s) (x .item) us xs h in
       (w, slots-fit i ds (suc s) l _ (x .does .state) _ ts (y .calls) (x .item .at) (omega (arith, n)) (y .follows) (sym (y .refuses-on) ∙ e))
 
