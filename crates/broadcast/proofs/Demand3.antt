@@ -47,7 +47,7 @@ module _ {A : Type 0} where
   units-of (account-unit u ∷ es) = ap (λ r. u .content ∷ r) (units-of es)
 
 -- an accepted start
-start-accepted : (cfg : Config) → startOf cfg .refusal ≡ 0 → (startRefusal cfg ≡ 0) × (startOf cfg .state ≡ freshState cfg)
+pub start-accepted : (cfg : Config) → startOf cfg .refusal ≡ 0 → (startRefusal cfg ≡ 0) × (startOf cfg .state ≡ freshState cfg)
 unfolding startOf
 start-accepted cfg e = go (eqb (startRefusal cfg) 0) refl e
   where
@@ -78,7 +78,7 @@ fresh-line limit c k h =
     subst (λ (ch : Channel). LineIs {A = List (ℕ × ℕ)} ch k limit c fresh) (sym (getD-replicate 16 k unheard unheard h)) (refl, tt)
 
 -- a fresh receiver stands for the account's beginning
-start-at : (cfg : Config) (p c : List ℕ) → startOf cfg .refusal ≡ 0 → 21433 ≤ length p → cfg .watch .n * cfg .limit ≤ length c
+pub start-at : (cfg : Config) (p c : List ℕ) → startOf cfg .refusal ≡ 0 → 21433 ≤ length p → cfg .watch .n * cfg .limit ≤ length c
     → At {A = ℕ × ℕ} cfg (started cfg p c) searching (λ k. fresh) blankLayout 120
 unfolding freshState unheard
 start-at cfg p c e hp hc =
@@ -103,7 +103,7 @@ start-at cfg p c e hp hc =
     })
 
 -- memories that suffice, from the first slot that is accepted
-frame-config : (st : State) (b : List ℕ) → frameOf st b .state .config ≡ st .config
+pub frame-config : (st : State) (b : List ℕ) → frameOf st b .state .config ≡ st .config
 unfolding frameOf
 frame-config st b = go (eqb (length b) 1178) (frameBusy st) (eqb (decodeOf b (st .config .stream) .refusal) 0)
   where
@@ -117,7 +117,7 @@ frame-config st b = go (eqb (length b) 1178) (frameBusy st) (eqb (decodeOf b (st
     go true false false = refl
     go false y z = refl
 
-slot-due : (st : State) (p c d : List ℕ) → slotOf st p c d .0 .refusal ≡ 0 → slotRefusal st (length p) (length c) ≡ 0
+pub slot-due : (st : State) (p c d : List ℕ) → slotOf st p c d .0 .refusal ≡ 0 → slotRefusal st (length p) (length c) ≡ 0
 unfolding slotOf
 slot-due st p c d e = go (eqb (slotRefusal st (length p) (length c)) 0) refl e
   where
@@ -127,7 +127,7 @@ slot-due st p c d e = go (eqb (slotRefusal st (length p) (length c)) 0) refl e
     go true q h = eqb-true _ 0 q
     go false q h = h
 
-long-enough : (st : State) (p c : ℕ) → slotRefusal st p c ≡ 0 → (21433 ≤ p) × (st .config .watch .n * st .config .limit ≤ c)
+pub long-enough : (st : State) (p c : ℕ) → slotRefusal st p c ≡ 0 → (21433 ≤ p) × (st .config .watch .n * st .config .limit ≤ c)
 unfolding slotRefusal shortBy
 long-enough st p c e = go (leb 120 (st .frame .at)) (st .owed) (ltb p 21433) (ltb c (st .config .watch .n * st .config .limit)) refl refl e
   where
@@ -140,7 +140,7 @@ long-enough st p c e = go (leb 120 (st .frame .at)) (st .owed) (ltb p 21433) (lt
     go false false false false q r h = (ltb-false _ _ q, ltb-false _ _ r)
 
 -- a slot that is due after the first frame's call
-slot-tells : (cfg : Config) (p c b : List ℕ) → startOf cfg .refusal ≡ 0
+pub slot-tells : (cfg : Config) (p c b : List ℕ) → startOf cfg .refusal ≡ 0
     → (let m = did (frame b) (started cfg p c) .machine in slotRefusal (m .state) (length (m .packet)) (length (m .collecting)) ≡ 0)
     → (21433 ≤ length p) × (cfg .watch .n * cfg .limit ≤ length c)
 unfolding did freshState

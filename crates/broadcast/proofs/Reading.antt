@@ -163,6 +163,8 @@ module _ (cfg : Config) where
       → run tl as'' ≡ y .events ++ run (y .state) as' → stateAfter tl as'' ≡ stateAfter (y .state) as'
       → Follows (call k ∷ drain ∷ us) m xs
       → ((ys : List Made) → Follows us (record { state = i .state; packet = did k m .machine .packet; collecting = i .collecting }) ys
+      → refusals (call k ∷ drain ∷ us) m xs
+      ≡ refusals us (record { state = i .state; packet = did k m .machine .packet; collecting = i .collecting }) ys
       → Went cfg (y .state) (linesAfter cfg f (y .events)) as' ts
       (allShown us (record { state = i .state; packet = did k m .machine .packet; collecting = i .collecting }) ys)
       (refusals us (record { state = i .state; packet = did k m .machine .packet; collecting = i .collecting }) ys) l n)
@@ -170,7 +172,7 @@ module _ (cfg : Config) where
   went-on m k tl f l s y as' as'' us ts xs n i e g h rest =
       let es = map strip (events cfg f (y .events)) in
       let q = item-follows cfg m k (y .state) (linesAfter cfg f (y .events)) es l s i us xs h in
-      let r = rest (q .calls) (q .follows) in
+      let r = rest (q .calls) (q .follows) (q .refuses-on) in
       record {
         machine = r .machine;
         at = rw (g, e, lines-append cfg f (y .events) (run (y .state) as')) (r .at);
@@ -201,7 +203,7 @@ module _ (cfg : Config) where
       let y = x .does in
       let tail = slotsArrive l gone i (suc s) ds in
       went-on m (slotCall (gone s) d) tl f l (suc s) y tail _ (slotsTodo gone (suc s) ds ++ ts) ts xs 120 (x .item) (x .runs tail) (x .ends tail) h
-      (λ ys q. slots-read gone i ds (suc s) l _ (y .state) (linesAfter cfg f (y .events)) ts ys (x .item .at) (omega (arith, n)) (w .1) q)
+      (λ ys q g. slots-read gone i ds (suc s) l _ (y .state) (linesAfter cfg f (y .events)) ts ys (x .item .at) (omega (arith, n)) (w .1) q)
 
   -- the same calls can be made
   slots-made : (gone : ℕ → Bool) (i : ℕ) (ds : List (List ℕ)) (s : ℕ) (l : Layout) (m : Machine) (tl : Slot-state (ℕ × ℕ))
@@ -314,7 +316,7 @@ module _ (cfg : Config) where
           let x = lost-frame-item cfg m tl f l a in
           let v =
           went-on m lost-frame tl f l 120 y [] (lost ∷ []) us us xs 120 x refl refl q
-          (λ ys h.
+          (λ ys h g.
           record {
             machine = record { state = x .state; packet = did lost-frame m .machine .packet; collecting = x .collecting };
             at = x .at;

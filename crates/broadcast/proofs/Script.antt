@@ -63,7 +63,7 @@ unfolding did
 did-next st p c c' a e = rw e
 
 -- nothing prescribed, and no call made
-not-done : {t : Todo} {ts : List Todo} → t ∷ ts ≡ [] → ⊥
+pub not-done : {t : Todo} {ts : List Todo} → t ∷ ts ≡ [] → ⊥
 not-done e = let z : _≡_ {A = ℕ} 0 1 = cc in omega arith
 
 -- an own call
