@@ -69,4 +69,4 @@ module _ {A : Type 0} (a : A) where
     where
       go : (b : Bool) → Short (kept b a (r .tail) .state)
       go true = tt
-      go false = l
+      go false = omega arith

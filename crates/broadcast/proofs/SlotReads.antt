@@ -120,32 +120,34 @@ module _ {A : Type 0} (a : A) (d : List ℕ) (top last : ℕ) (small : length d 
         → (es : List (Event A)) → some-if k (slot-notes k) ++ some-if n (a-packet (partOf q 0 n)) ≡ map bare es
         → Same (cursorFrom k n top (length d)) searching q (after es (readFrom b a s))
     from-same b e t k n l es u =
+        let more : List Found = map bare (readFrom b a s .events) in
         record {
           gives = from-gives b e k n
-              ∙ sym (append-assoc (some-if k (slot-notes k)) (some-if n (a-packet (partOf q 0 n))) (map bare (readFrom b a s .events)))
-              ∙ ap (λ (x : List Found). x ++ map bare (readFrom b a s .events)) u
+              ∙ sym (append-assoc (some-if k (slot-notes k)) (some-if n (a-packet (partOf q 0 n))) more)
+              ∙ ap (λ (x : List Found). x ++ more) u
               ∙ sym (map-append bare es (readFrom b a s .events));
           leaves = from-leaves k n l b e t;
           short = read-short b;
           good = from-good k n l b e t;
         }
 
--- the slot call, on a state that owes next
+-- the slot call, on a state that owes next: it leaves held bytes and a cursor
+made : {A : Type 0} (st : State) (p : List ℕ) → st .owed ≡ true → (h : Held) (c : Cursor) (q : List ℕ) (w : Stepped A)
+    → length q ≡ length p → Same c h q w → Reads st (st .frame) p (withSlot st h c, q) w
+made st p o h c q w e x =
+    record {
+      slot = x;
+      same-length = e;
+      config = refl;
+      frame = refl;
+      owed = o;
+      queue = refl;
+      channels = refl;
+    }
+
+-- ... where bytes are held
 module _ {A : Type 0} (a : A) (st : State) (p d : List ℕ) (top last : ℕ) (owed : st .owed ≡ true) (small : length d ≤ slotArea)
     (room : slotArea + length d ≤ length p) where
-  made : (h : Held) (c : Cursor) (q : List ℕ) (w : Stepped A) → length q ≡ length p → Same c h q w
-      → Reads st (st .frame) p (withSlot st h c, q) w
-  made h c q w e x =
-      record {
-        slot = x;
-        same-length = e;
-        config = refl;
-        frame = refl;
-        owed = owed;
-        queue = refl;
-        channels = refl;
-      }
-
   abbrev bytes : List ℕ
   bytes = heldBytes (st .held) p
 
@@ -171,7 +173,8 @@ module _ {A : Type 0} (a : A) (st : State) (p d : List ℕ) (top last : ℕ) (ow
     front = copied-front mem d mem-room (length bytes + e) fits ∙ continued-front (st .held) p d e inside (omega arith) within
 
     finished-gives : (ls : List A) (h : List ℕ) → partOf out 0 (length h + e) ≡ h ++ take e d
-        → some-if (packetEnd (length h) e) (a-packet (partOf out 0 (packetEnd (length h) e))) ≡ map bare (finished ls h a (take e d))
+        → some-if (packetEnd (length h) e) (a-packet (partOf out 0 (packetEnd (length h) e)))
+        ≡ map bare (finished ls h a (take e d))
     unfolding finished
     finished-gives ls [] f = refl
     finished-gives ls (x ∷ h) f = rw (ne-eqb (length (x ∷ h)) 0 (omega arith), ne-eqb (length (x ∷ h) + e) 0 (omega arith), f)
@@ -213,7 +216,7 @@ module _ {A : Type 0} (a : A) (st : State) (p d : List ℕ) (top last : ℕ) (ow
         record {
           gives = still-gives 0 0 out;
           leaves = rw (still-leaves 0 0 h out) (refl, rw out-length (omega arith), f);
-          short = rw l fits;
+          short = rw l (omega arith);
           good = still-good 0 0 h out (omega arith);
         }
 
@@ -223,15 +226,17 @@ module _ {A : Type 0} (a : A) (st : State) (p d : List ℕ) (top last : ℕ) (ow
         (resumed k b ls bytes a (slotOf d top last))
     unfolding resumedState resumedMem resumed
     resumed-reads TooLong b z t f =
-        made _ _ _ _ (length-copied p d room) (from-same a d top last small p room b z t 43 0 (omega arith) (note 43 ∷ []) refl)
+        made st p owed _ _ _ _ (length-copied p d room)
+        (from-same a d top last small p room b z t 43 0 (omega arith) (note 43 ∷ []) refl)
     resumed-reads Misfit b z t f =
-        made _ _ _ _ (length-copied p d room) (from-same a d top last small p room b z t 42 0 (omega arith) (note 42 ∷ []) refl)
+        made st p owed _ _ _ _ (length-copied p d room)
+        (from-same a d top last small p room b z t 42 0 (omega arith) (note 42 ∷ []) refl)
     resumed-reads (Ends e) true z t f =
-        rw z (made _ _ _ _ (out-length inside e (f .0) (f .1)) (ends-same inside e (f .0) (f .1) ls z))
+        rw z (made st p owed _ _ _ _ (out-length inside e (f .0) (f .1)) (ends-same inside e (f .0) (f .1) ls z))
     resumed-reads (Ends e) false z t f =
-        rw z (made _ _ _ _ (out-length inside e (f .0) (f .1)) (ends-before inside e (f .0) (f .1) ls z (t refl)))
+        rw z (made st p owed _ _ _ _ (out-length inside e (f .0) (f .1)) (ends-before inside e (f .0) (f .1) ls z (t refl)))
     resumed-reads GoesOn b z t f =
-        made _ _ _ _ (out-length inside (length d) f (omega arith))
+        made st p owed _ _ _ _ (out-length inside (length d) f (omega arith))
         (goes-same inside (length d) f (omega arith) (ls ++ (a ∷ [])) d (take-length d))
 
 -- by whether the slot is sound and whether bytes are held
@@ -253,10 +258,10 @@ module _ {A : Type 0} (a : A) (st : State) (p d : List ℕ) (t : Pointers) (owed
       → Own b (st .held .on) (arrived b tl a (slotFrom d t))
   unfolding arrived
   own-by false e tl h l =
-      made a st p d (t .0) (t .1) owed small room _ _ _ _ (length-copied p d room) (stops-same 41 (note 41 ∷ []) (copied p d) refl)
+      made st p owed _ _ _ _ (length-copied p d room) (stops-same 41 (note 41 ∷ []) (copied p d) refl)
   own-by true e slot-searching h l =
       subst (λ (on : Bool). Own true on (readFrom (eqb (t .0) none) a (slotFrom d t))) (sym h)
-      (made a st p d (t .0) (t .1) owed small room _ _ _ _ (length-copied p d room)
+      (made st p owed _ _ _ _ (length-copied p d room)
       (from-same a d (t .0) (t .1) small p room (eqb (t .0) none) refl (top-inside d (t .0) (t .1) e) 0 0 (omega arith) [] refl))
   own-by true e (held ls b) h l =
       subst (λ (on : Bool). Own true on (arrived true (held ls b) a (slotFrom d t))) (sym (h .0))
