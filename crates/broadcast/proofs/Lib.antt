@@ -1,2 +1,25 @@
 -- The proofs of the claims.
 pub mod Specimens
+pub mod Labels
+pub mod Inputs
+pub mod AccountLoss
+pub mod Refusals
+pub mod Script
+pub mod Parts
+pub mod SlotMemory
+pub mod SlotCut
+pub mod SlotFits
+pub mod SlotReads
+pub mod Advance
+pub mod PacketInput
+pub mod JoinCases
+pub mod JoinStands
+pub mod QueueTakes
+pub mod PacketReads
+pub mod EventCount
+pub mod Draining
+pub mod Items
+pub mod Reading
+pub mod Arrivals
+pub mod Demand3
+pub mod Readings

@@ -1,0 +1,469 @@
+-- A reading of frames, whole or damaged: none of its calls is refused, and it shows what the account says.
+use Prim.Native.Nat.{ℕ, zero, suc, _+_, _<_, _≤_}
+use mathlib.Core.Path.{_≡_, refl, sym, ap, _∙_, subst}
+use mathlib.Core.Bool.{Bool, true, false, cond}
+use mathlib.Core.List.{List, [], _∷_, _++_, map, map-append, append-assoc, append-nil}
+use native.Mathlib.Omega.{arith}
+use lib.ListN.{length, getD}
+use borrow.Author.Tests.{eq-eqb, eqb-true}
+use lib.Dec.{eqb}
+use Rattle.tmcc.specs.declared.layout.Layout.{Layout}
+use Rattle.tmcc.specs.Block.{decodeOf}
+use Rattle.tmcc.proofs.Laws.{accepted as tmcc-accepted}
+use Rattle.tlv.proofs.Runs.{run-append}
+use Rattle.tlv.specs.Run.{Stepped, State as Slot-state, Arrival, given, lost, step, run, stateAfter, Event as Slot-event}
+use Rattle.reassembly.specs.declared.config.Config.{Config}
+use Rattle.reassembly.specs.Run.{Line}
+use Rattle.receiver.specs.declared.state.Frame.{Frame as ReceiverFrame}
+use Rattle.receiver.specs.declared.state.State.{State}
+use Rattle.receiver.specs.State.{withFrame, refused as refusedWith, accepted as acceptedAs}
+use Rattle.receiver.specs.Frame.{frameBusy, frameOf}
+use Rattle.receiver.specs.Slot.{wrongLength, refusalOf, slotOf, slotTaken, dueLength, dueOwn, duePointers}
+use Rattle.broadcast.specs.Account.{events, linesAfter, afterEvent}
+use Rattle.broadcast.specs.Drains.{Shown, strip}
+use Rattle.broadcast.specs.Calls.{Machine, Call, frame, slot, lost-slot, lost-frame, accepted, refused, numbered, Did, did, Todo, call, drain, Made, own, shows, added, Follows, allShown, refusals, noteShown, refusalIn, Answer}
+use Rattle.broadcast.specs.Frames.{Frame, Whole, Damage, none, slotCall, slotsTodo, frameTodo, reading, slotAt, ifOwn, arriving, slotsArrive, layoutIn, frameArrives, arrivals}
+use Rattle.broadcast.proofs.Script.{Left, Makes, call-follows, drain-follows, call-made, drain-made}
+use Rattle.broadcast.proofs.Items.{At, Item, due, own-item, lost-item, lost-frame-item, other-item, other-lost-item}
+
+-- one list of slot events behind another
+module _ {A : Type 0} (cfg : Config) where
+  pub events-append : (f : ℕ → Line (List A)) (a b : List (Slot-event A))
+      → events cfg f (a ++ b) ≡ events cfg f a ++ events cfg (linesAfter cfg f a) b
+  unfolding events linesAfter
+  events-append f [] b = refl
+  events-append f (x ∷ a) b =
+      let r = afterEvent cfg x f in
+      ap (λ l. r .events ++ l) (events-append (r .lines) a b)
+      ∙ sym (append-assoc (r .events) (events cfg (r .lines) a) (events cfg (linesAfter cfg (r .lines) a) b))
+
+  pub lines-append : (f : ℕ → Line (List A)) (a b : List (Slot-event A))
+      → linesAfter cfg f (a ++ b) ≡ linesAfter cfg (linesAfter cfg f a) b
+  unfolding linesAfter
+  lines-append f [] b = refl
+  lines-append f (x ∷ a) b = lines-append (afterEvent cfg x f .lines) a b
+
+-- one thing prescribed after another
+then : {ts ts' : List Todo} {m m' : Machine} {es es' : List Shown} {all : List Shown} {ref : List ℕ} → Left ts m es [] all ref
+    → ((xs : List Made) → Follows ts m xs → Left ts' m' es' [] (allShown ts m xs) (refusals ts m xs)) → Left ts' m' (es ++ es') [] all ref
+then {es = es} {es' = es'} l h =
+    let k = h (l .calls) (l .follows) in
+    record {
+      calls = k .calls;
+      follows = k .follows;
+      shows-on = l .shows-on ∙ ap (λ r. es ++ r) (k .shows-on) ∙ sym (append-assoc es es' (allShown _ _ (k .calls)));
+      refuses-on = l .refuses-on ∙ k .refuses-on;
+    }
+
+-- a call that is accepted, with next until nothing waits
+module _ {A : Type 0} (cfg : Config) (m : Machine) (k : Call) (tl : Slot-state A) (f : ℕ → Line (List A)) (es : List Shown) (l : Layout)
+    (s : ℕ) (i : Item cfg m k tl f es l s) where
+  abbrev machineThen : Machine
+  machineThen = record { state = i .state; packet = did k m .machine .packet; collecting = i .collecting }
+
+  accepted-left : (a : Answer) → a ≡ accepted → (noteShown a ≡ []) × (refusalIn a ≡ [])
+  accepted-left a e = (rw e, rw e)
+
+  pub item-follows : (ts : List Todo) (xs : List Made) → Follows (call k ∷ drain ∷ ts) m xs
+      → Left ts machineThen es [] (allShown (call k ∷ drain ∷ ts) m xs) (refusals (call k ∷ drain ∷ ts) m xs)
+  item-follows ts xs h =
+      let c = call-follows k (drain ∷ ts) m xs h in
+      let n = accepted-left (did k m .answer) (i .answer) in
+      let d = drain-follows (c .calls) ts (did k m .machine .packet) (i .drains) (c .follows) in
+      record {
+        calls = d .calls;
+        follows = d .follows;
+        shows-on = c .shows-on ∙ ap (λ r. r ++ allShown (drain ∷ ts) (did k m .machine) (c .calls)) (n .0) ∙ d .shows-on;
+        refuses-on = c .refuses-on ∙ ap (λ r. r ++ refusals (drain ∷ ts) (did k m .machine) (c .calls)) (n .1) ∙ d .refuses-on;
+      }
+
+  pub item-made : (ts : List Todo) → Makes ts machineThen → Makes (call k ∷ drain ∷ ts) m
+  item-made ts h = call-made (drain ∷ ts) m k (drain-made ts (did k m .machine .packet) (i .drains) h)
+
+-- the slots from number s on have their data lengths
+abbrev pub SlotsFit : Layout → ℕ → List (List ℕ) → Type 0
+SlotsFit l s [] = Unit {0}
+SlotsFit l s (d ∷ ds) = (wrongLength (getD (l .lengths) s 0) (length d) ≡ false) × SlotsFit l (suc s) ds
+
+-- frames whose blocks are accepted and whose slots have their lengths
+abbrev pub FramesFit : ℕ → List Frame → Type 0
+FramesFit stream [] = Unit {0}
+FramesFit stream (r ∷ rs) =
+    (decodeOf (r .block) stream .refusal ≡ 0) × (length (r .slots) ≡ 120) × SlotsFit (layoutIn stream r) 0 (r .slots)
+    × FramesFit stream rs
+
+-- what a reading leaves: the machine, and the state of the account after the arrivals xs
+pub record Went {A : Type 0} (cfg : Config) (tl : Slot-state A) (f : ℕ → Line (List A)) (xs : List (Arrival A)) (ts : List Todo)
+    (all : List Shown) (ref : List ℕ) (l : Layout) (n : ℕ) : Type 0 where
+  pub machine : Machine
+  pub at : At cfg machine (stateAfter tl xs) (linesAfter cfg f (run tl xs)) l n
+  pub left : Left ts machine (map strip (events cfg f (run tl xs))) [] all ref
+
+module _ (cfg : Config) where
+  -- a slot's call, and what arrives of it
+  pub record Step (m : Machine) (tl : Slot-state (ℕ × ℕ)) (f : ℕ → Line (List (ℕ × ℕ))) (l : Layout) (s : ℕ) (k : Call)
+      (arr : List (Arrival (ℕ × ℕ))) : Type 0 where
+    pub does : Stepped (ℕ × ℕ)
+    pub item : Item cfg m k (does .state) (linesAfter cfg f (does .events)) (map strip (events cfg f (does .events))) l (suc s)
+    pub runs : (xs : List (Arrival (ℕ × ℕ))) → run tl (arr ++ xs) ≡ does .events ++ run (does .state) xs
+    pub ends : (xs : List (Arrival (ℕ × ℕ))) → stateAfter tl (arr ++ xs) ≡ stateAfter (does .state) xs
+
+  module _ (m : Machine) (tl : Slot-state (ℕ × ℕ)) (f : ℕ → Line (List (ℕ × ℕ))) (l : Layout) (i s : ℕ) (d : List ℕ)
+      (a : At cfg m tl f l s) (h : s < 120) where
+    step-by : (gone own : Bool) → (gone ≡ false → wrongLength (getD (l .lengths) s 0) (length d) ≡ false) → getD (l .own) s false ≡ own
+        → Step m tl f l s (slotCall gone d) (cond own (arriving gone (i, s) (slotAt l s d) ∷ []) [])
+    unfolding run stateAfter
+    step-by true true w o =
+        record {
+          does = step tl lost;
+          item = lost-item cfg m tl f l s a h o;
+          runs = λ xs. refl;
+          ends = λ xs. refl;
+        }
+    step-by true false w o =
+        record {
+          does = record { state = tl; events = [] };
+          item = other-lost-item cfg m tl f l s a h o;
+          runs = λ xs. refl;
+          ends = λ xs. refl;
+        }
+    step-by false true w o =
+        record {
+          does = step tl (given (i, s) (slotAt l s d));
+          item =
+              own-item cfg m tl f l (i, s) s d a h o (w refl);
+          runs = λ xs. refl;
+          ends = λ xs. refl;
+        }
+    step-by false false w o =
+        record {
+          does = record { state = tl; events = [] };
+          item = other-item cfg m tl f l s d a h o (w refl);
+          runs = λ xs. refl;
+          ends = λ xs. refl;
+        }
+
+    pub slot-step : (gone : Bool) → (gone ≡ false → wrongLength (getD (l .lengths) s 0) (length d) ≡ false)
+        → Step m tl f l s (slotCall gone d) (ifOwn l s (arriving gone (i, s) (slotAt l s d)))
+    slot-step gone w = step-by gone (getD (l .own) s false) w refl
+
+  -- what was shown for slot events y, and then for the arrivals xs
+  pub shown-on : (tl : Slot-state (ℕ × ℕ)) (f : ℕ → Line (List (ℕ × ℕ))) (y : Stepped (ℕ × ℕ)) (as' xs : List (Arrival (ℕ × ℕ)))
+      → run tl as' ≡ y .events ++ run (y .state) xs
+      → map strip (events cfg f (run tl as'))
+      ≡ map strip (events cfg f (y .events)) ++ map strip (events cfg (linesAfter cfg f (y .events)) (run (y .state) xs))
+  shown-on tl f y as' xs e =
+      ap (λ r. map strip (events cfg f r)) e ∙ ap (map strip) (events-append cfg f (y .events) (run (y .state) xs))
+      ∙ map-append strip (events cfg f (y .events)) (events cfg (linesAfter cfg f (y .events)) (run (y .state) xs))
+
+  -- an item, and then the rest of a reading
+  pub went-on : (m : Machine) (k : Call) (tl : Slot-state (ℕ × ℕ)) (f : ℕ → Line (List (ℕ × ℕ))) (l : Layout) (s : ℕ) (y : Stepped (ℕ × ℕ))
+      (as' as'' : List (Arrival (ℕ × ℕ))) (us ts : List Todo) (xs : List Made) (n : ℕ)
+      (i : Item cfg m k (y .state) (linesAfter cfg f (y .events)) (map strip (events cfg f (y .events))) l s)
+      → run tl as'' ≡ y .events ++ run (y .state) as' → stateAfter tl as'' ≡ stateAfter (y .state) as'
+      → Follows (call k ∷ drain ∷ us) m xs
+      → ((ys : List Made) → Follows us (record { state = i .state; packet = did k m .machine .packet; collecting = i .collecting }) ys
+      → refusals (call k ∷ drain ∷ us) m xs
+      ≡ refusals us (record { state = i .state; packet = did k m .machine .packet; collecting = i .collecting }) ys
+      → Went cfg (y .state) (linesAfter cfg f (y .events)) as' ts
+      (allShown us (record { state = i .state; packet = did k m .machine .packet; collecting = i .collecting }) ys)
+      (refusals us (record { state = i .state; packet = did k m .machine .packet; collecting = i .collecting }) ys) l n)
+      → Went cfg tl f as'' ts (allShown (call k ∷ drain ∷ us) m xs) (refusals (call k ∷ drain ∷ us) m xs) l n
+  went-on m k tl f l s y as' as'' us ts xs n i e g h rest =
+      let es = map strip (events cfg f (y .events)) in
+      let q = item-follows cfg m k (y .state) (linesAfter cfg f (y .events)) es l s i us xs h in
+      let r = rest (q .calls) (q .follows) (q .refuses-on) in
+      record {
+        machine = r .machine;
+        at = rw (g, e, lines-append cfg f (y .events) (run (y .state) as')) (r .at);
+        left = record {
+          calls = r .left .calls;
+          follows = r .left .follows;
+          shows-on =
+              q .shows-on ∙ ap (λ z. es ++ z) (r .left .shows-on)
+              ∙ sym (append-assoc es (map strip (events cfg (linesAfter cfg f (y .events)) (run (y .state) as'))) _)
+              ∙ ap (λ z. z ++ allShown ts (r .machine) (r .left .calls)) (sym (shown-on tl f y as'' as' e));
+          refuses-on = q .refuses-on ∙ r .left .refuses-on;
+        };
+      }
+
+  slots-read : (gone : ℕ → Bool) (i : ℕ) (ds : List (List ℕ)) (s : ℕ) (l : Layout) (m : Machine) (tl : Slot-state (ℕ × ℕ))
+      (f : ℕ → Line (List (ℕ × ℕ))) (ts : List Todo) (xs : List Made) → At cfg m tl f l s → s + length ds ≡ 120 → SlotsFit l s ds
+      → Follows (slotsTodo gone s ds ++ ts) m xs
+      → Went cfg tl f (slotsArrive l gone i s ds) ts (allShown (slotsTodo gone s ds ++ ts) m xs) (refusals (slotsTodo gone s ds ++ ts) m xs) l 120
+  unfolding slotsTodo slotsArrive run stateAfter events linesAfter
+  slots-read gone i [] s l m tl f ts xs a n w h =
+      record {
+        machine = m;
+        at = subst (λ (k : ℕ). At cfg m tl f l k) (omega (arith, n)) a;
+        left = record { calls = xs; follows = h; shows-on = refl; refuses-on = refl };
+      }
+  slots-read gone i (d ∷ ds) s l m tl f ts xs a n w h =
+      let x = slot-step m tl f l i s d a (omega (arith, n)) (gone s) (λ z. w .0) in
+      let y = x .does in
+      let tail = slotsArrive l gone i (suc s) ds in
+      went-on m (slotCall (gone s) d) tl f l (suc s) y tail _ (slotsTodo gone (suc s) ds ++ ts) ts xs 120 (x .item) (x .runs tail) (x .ends tail) h
+      (λ ys q g. slots-read gone i ds (suc s) l _ (y .state) (linesAfter cfg f (y .events)) ts ys (x .item .at) (omega (arith, n)) (w .1) q)
+
+  -- the same calls can be made
+  slots-made : (gone : ℕ → Bool) (i : ℕ) (ds : List (List ℕ)) (s : ℕ) (l : Layout) (m : Machine) (tl : Slot-state (ℕ × ℕ))
+      (f : ℕ → Line (List (ℕ × ℕ))) (ts : List Todo) → At cfg m tl f l s → s + length ds ≡ 120 → SlotsFit l s ds
+      → ((n : Machine) (u : Slot-state (ℕ × ℕ)) (g : ℕ → Line (List (ℕ × ℕ))) → At cfg n u g l 120 → Makes ts n)
+      → Makes (slotsTodo gone s ds ++ ts) m
+  unfolding slotsTodo
+  slots-made gone i [] s l m tl f ts a n w h = h m tl f (subst (λ (k : ℕ). At cfg m tl f l k) (omega (arith, n)) a)
+  slots-made gone i (d ∷ ds) s l m tl f ts a n w h =
+      let x = slot-step m tl f l i s d a (omega (arith, n)) (gone s) (λ z. w .0) in
+      item-made cfg m (slotCall (gone s) d) (x .does .state) _ _ l (suc s) (x .item) (slotsTodo gone (suc s) ds ++ ts)
+      (slots-made gone i ds (suc s) l _ (x .does .state) _ ts (x .item .at) (omega (arith, n)) (w .1) h)
+
+  -- nothing is prescribed any more: only added calls stand there
+  pub nothing-left : (m : Machine) (xs : List Made) → Follows [] m xs → (allShown [] m xs ≡ []) × (refusals [] m xs ≡ [])
+  nothing-left m [] h = (refl, refl)
+  nothing-left m (own k ∷ xs) h = absurd (h .0)
+  nothing-left m (shows ∷ xs) h = absurd (h .0)
+  nothing-left m (added k ∷ xs) h = nothing-left (did k m .machine) xs (h .1)
+
+  -- a frame's call
+  abbrev pub framed : Machine → Layout → Machine
+  framed m l =
+      record {
+        state = withFrame (m .state) (record { layout = l; at = 0 });
+        packet = m .packet;
+        collecting = m .collecting;
+      }
+
+  pub frame-did : (m : Machine) (tl : Slot-state (ℕ × ℕ)) (f : ℕ → Line (List (ℕ × ℕ))) (l : Layout) (b : List ℕ) → At cfg m tl f l 120
+      → decodeOf b (cfg .stream) .refusal ≡ 0
+      → did (frame b) m ≡ record { answer = accepted; machine = framed m (decodeOf b (cfg .stream) .layout) }
+  unfolding did frameOf frameBusy
+  frame-did m tl f l b a e =
+      let n = tmcc-accepted b (cfg .stream) e .size in
+      rw (eq-eqb _ _ n, a .frame, a .tracks .paid, a .tracks .config, e)
+
+  pub frame-at : (m : Machine) (tl : Slot-state (ℕ × ℕ)) (f : ℕ → Line (List (ℕ × ℕ))) (l l' : Layout) → At cfg m tl f l 120
+      → At cfg (framed m l') tl f l' 0
+  frame-at m tl f l l' a =
+      let k = a .tracks in
+      record {
+        tracks = record {
+          config = k .config;
+          packet-long = k .packet-long;
+          collecting-long = k .collecting-long;
+          places = k .places;
+          channels = k .channels;
+          paid = k .paid;
+          cursor = k .cursor;
+          queue = k .queue;
+          held = k .held;
+          lines = k .lines;
+        };
+        short = a .short;
+        frame = refl;
+      }
+
+  -- what a reading shows, and that none of its own calls is refused
+  pub record ReadsAs (all : List Shown) (ref : List ℕ) (es : List Shown) : Type 0 where
+    pub shown-all : all ≡ es
+    pub refused-none : ref ≡ []
+
+  module _ (d : Damage) where
+    abbrev Reads-all : ℕ → List Frame → Machine → Slot-state (ℕ × ℕ) → (ℕ → Line (List (ℕ × ℕ))) → List Made → Type 0
+    Reads-all i rs m tl f xs =
+        ReadsAs (allShown (reading d i rs) m xs) (refusals (reading d i rs) m xs)
+        (map strip (events cfg f (run tl (arrivals (cfg .stream) d i rs))))
+
+    -- the frames after the arrivals as' have been read
+    read-on : (i : ℕ) (rs : List Frame) (tl : Slot-state (ℕ × ℕ)) (f : ℕ → Line (List (ℕ × ℕ))) (as' : List (Arrival (ℕ × ℕ)))
+        (all : List Shown) (ref : List ℕ) (l : Layout) (w : Went cfg tl f as' (reading d i rs) all ref l 120)
+        → Reads-all i rs (w .machine) (stateAfter tl as') (linesAfter cfg f (run tl as')) (w .left .calls)
+        → ReadsAs all ref (map strip (events cfg f (run tl (as' ++ arrivals (cfg .stream) d i rs))))
+    read-on i rs tl f as' all ref l w h =
+        let xs = arrivals (cfg .stream) d i rs in
+        record {
+          shown-all =
+              w .left .shows-on ∙ ap (λ r. map strip (events cfg f (run tl as')) ++ r) (h .shown-all)
+              ∙ sym (shown-on tl f (record { state = stateAfter tl as'; events = run tl as' }) (as' ++ xs) xs (run-append (ℕ × ℕ) tl as' xs .0));
+          refused-none = w .left .refuses-on ∙ h .refused-none;
+        }
+
+    -- an accepted call that next is not owed after
+    pub call-left : (k : Call) (ts : List Todo) (m m' : Machine) (xs : List Made) → did k m ≡ record { answer = accepted; machine = m' }
+        → Follows (call k ∷ ts) m xs → Left ts m' [] [] (allShown (call k ∷ ts) m xs) (refusals (call k ∷ ts) m xs)
+    call-left k ts m m' xs e h =
+        subst
+        (λ (x : Did).
+        Left ts (x .machine) (noteShown (x .answer)) (refusalIn (x .answer)) (allShown (call k ∷ ts) m xs) (refusals (call k ∷ ts) m xs))
+        e (call-follows k ts m xs h)
+
+    -- a frame, whose rest `again` reads
+    module _ (i : ℕ) (r : Frame) (rs : List Frame)
+        (again : (l : Layout) (m : Machine) (tl : Slot-state (ℕ × ℕ)) (f : ℕ → Line (List (ℕ × ℕ))) (xs : List Made) → At cfg m tl f l 120
+        → Follows (reading d (suc i) rs) m xs → Reads-all (suc i) rs m tl f xs) (l : Layout) (m : Machine) (tl : Slot-state (ℕ × ℕ))
+        (f : ℕ → Line (List (ℕ × ℕ))) (xs : List Made) (a : At cfg m tl f l 120) where
+      frame-read : (gone : Bool) → decodeOf (r .block) (cfg .stream) .refusal ≡ 0 → length (r .slots) ≡ 120
+          → SlotsFit (layoutIn (cfg .stream) r) 0 (r .slots) → Follows (frameTodo gone (d .slots i) r ++ reading d (suc i) rs) m xs
+          → ReadsAs (allShown (frameTodo gone (d .slots i) r ++ reading d (suc i) rs) m xs)
+          (refusals (frameTodo gone (d .slots i) r ++ reading d (suc i) rs) m xs)
+          (map strip
+          (events cfg f
+          (run tl
+          (frameArrives gone (layoutIn (cfg .stream) r) (d .slots i) i (r .slots) ++ arrivals (cfg .stream) d (suc i) rs))))
+      unfolding run stateAfter events linesAfter
+      frame-read true e n w q =
+          let us = reading d (suc i) rs in
+          let y = step tl lost in
+          let x = lost-frame-item cfg m tl f l a in
+          let v =
+          went-on m lost-frame tl f l 120 y [] (lost ∷ []) us us xs 120 x refl refl q
+          (λ ys h g.
+          record {
+            machine = record { state = x .state; packet = did lost-frame m .machine .packet; collecting = x .collecting };
+            at = x .at;
+            left = record { calls = ys; follows = h; shows-on = refl; refuses-on = refl };
+          }) in
+          read-on (suc i) rs tl f (lost ∷ []) _ _ l v (again l (v .machine) _ _ (v .left .calls) (v .at) (v .left .follows))
+      frame-read false e n w q =
+          let us = reading d (suc i) rs in
+          let l' = layoutIn (cfg .stream) r in
+          let c = call-left (frame (r .block)) (slotsTodo (d .slots i) 0 (r .slots) ++ us) m (framed m l') xs (frame-did m tl f l (r .block) a e) q in
+          let v =
+          slots-read (d .slots i) i (r .slots) 0 l' (framed m l') tl f us (c .calls) (frame-at m tl f l l' a) (omega (arith, n)) w (c .follows) in
+          let h = again l' (v .machine) _ _ (v .left .calls) (v .at) (v .left .follows) in
+          let g = read-on (suc i) rs tl f (slotsArrive l' (d .slots i) i 0 (r .slots)) _ _ l' v h in
+          record { shown-all = c .shows-on ∙ g .shown-all; refused-none = c .refuses-on ∙ g .refused-none }
+
+    pub frames-read : (i : ℕ) (rs : List Frame) (l : Layout) (m : Machine) (tl : Slot-state (ℕ × ℕ)) (f : ℕ → Line (List (ℕ × ℕ)))
+        (xs : List Made) → At cfg m tl f l 120 → FramesFit (cfg .stream) rs → Follows (reading d i rs) m xs → Reads-all i rs m tl f xs
+    unfolding reading arrivals run events
+    frames-read i [] l m tl f xs a w h =
+        let n = nothing-left m xs h in
+        record { shown-all = n .0; refused-none = n .1 }
+    frames-read i (r ∷ rs) l m tl f xs a w h =
+        frame-read i r rs (λ l' m' tl' f' ys b q. frames-read (suc i) rs l' m' tl' f' ys b (w .3) q) l m tl f xs a (d .frames i) (w .0) (w .1)
+        (w .2) h
+
+    -- such calls can be made
+    made-by : (k : Call) (ts : List Todo) (m m' : Machine) → did k m ≡ record { answer = accepted; machine = m' } → Makes ts m'
+        → Makes (call k ∷ ts) m
+    made-by k ts m m' e h = call-made ts m k (subst (λ (x : Did). Makes ts (x .machine)) (sym e) h)
+
+    frame-made : (i : ℕ) (r : Frame) (us : List Todo) (l : Layout) (m : Machine) (tl : Slot-state (ℕ × ℕ)) (f : ℕ → Line (List (ℕ × ℕ)))
+        → At cfg m tl f l 120 → (gone : Bool) → decodeOf (r .block) (cfg .stream) .refusal ≡ 0 → length (r .slots) ≡ 120
+        → SlotsFit (layoutIn (cfg .stream) r) 0 (r .slots)
+        → ((l' : Layout) (n : Machine) (u : Slot-state (ℕ × ℕ)) (g : ℕ → Line (List (ℕ × ℕ))) → At cfg n u g l' 120 → Makes us n)
+        → Makes (frameTodo gone (d .slots i) r ++ us) m
+    frame-made i r us l m tl f a true e n w h =
+        let x = lost-frame-item cfg m tl f l a in
+        item-made cfg m lost-frame _ _ _ l 120 x us (h l _ _ _ (x .at))
+    frame-made i r us l m tl f a false e n w h =
+        let l' = layoutIn (cfg .stream) r in
+        made-by (frame (r .block)) (slotsTodo (d .slots i) 0 (r .slots) ++ us) m (framed m l') (frame-did m tl f l (r .block) a e)
+        (slots-made (d .slots i) i (r .slots) 0 l' (framed m l') tl f us (frame-at m tl f l l' a) (omega (arith, n)) w (h l'))
+
+    pub frames-made : (i : ℕ) (rs : List Frame) (l : Layout) (m : Machine) (tl : Slot-state (ℕ × ℕ)) (f : ℕ → Line (List (ℕ × ℕ)))
+        → At cfg m tl f l 120 → FramesFit (cfg .stream) rs → Makes (reading d i rs) m
+    unfolding reading
+    frames-made i [] l m tl f a w = record { calls = []; follows = refl }
+    frames-made i (r ∷ rs) l m tl f a w =
+        frame-made i r (reading d (suc i) rs) l m tl f a (d .frames i) (w .0) (w .1) (w .2)
+        (λ l' n u g b. frames-made (suc i) rs l' n u g b (w .3))
+
+  -- what an accepted call tells
+  pub nil-left : {B : Type 0} (a b : List B) → a ++ b ≡ [] → a ≡ []
+  nil-left [] b e = refl
+  nil-left (x ∷ a) b e = let z : _≡_ {A = ℕ} 0 1 = cc in absurd (omega arith)
+
+  pub nil-right : {B : Type 0} (a b : List B) → a ++ b ≡ [] → b ≡ []
+  nil-right [] b e = e
+  nil-right (x ∷ a) b e = let z : _≡_ {A = ℕ} 0 1 = cc in absurd (omega arith)
+
+  -- a call that answers a number, and is not refused
+  pub unrefused : (n : ℕ) → refusalIn (numbered n) ≡ [] → n ≡ 0
+  unrefused n e = go (eqb n 0) refl e
+    where
+      go : (b : Bool) → eqb n 0 ≡ b → refusalIn (cond b accepted (refused n)) ≡ [] → n ≡ 0
+      go true q h = eqb-true n 0 q
+      go false q h = let z : _≡_ {A = ℕ} 0 1 = cc in absurd (omega arith)
+
+  pub frame-accepted : (st : State) (b : List ℕ) → frameOf st b .refusal ≡ 0 → decodeOf b (st .config .stream) .refusal ≡ 0
+  unfolding frameOf
+  frame-accepted st b e = go (eqb (length b) 1178) (frameBusy st) (eqb (decodeOf b (st .config .stream) .refusal) 0) refl e
+    where
+      r : ℕ
+      r = decodeOf b (st .config .stream) .refusal
+
+      go : (x y z : Bool) → eqb r 0 ≡ z
+          → (cond x
+          (cond y (refusedWith 11 st)
+          (cond z (acceptedAs (withFrame st (record { layout = decodeOf b (st .config .stream) .layout; at = 0 }))) (refusedWith r st)))
+          (refusedWith 10 st)) .refusal ≡ 0 → r ≡ 0
+      go true true z q h = absurd (omega arith)
+      go true false true q h = eqb-true r 0 q
+      go true false false q h = h
+      go false y z q h = absurd (omega arith)
+
+  -- a slot that is due and is accepted has its length
+  pub slot-accepted : (st : State) (p c d : List ℕ) → refusalOf st (length p) (length c) ≡ 0 → slotOf st p c d .0 .refusal ≡ 0
+      → wrongLength (dueLength st) (length d) ≡ false
+  unfolding slotOf
+  slot-accepted st p c d e h = go (wrongLength (dueLength st) (length d)) (rw e at h)
+    where
+      go : (b : Bool) → (cond b (refusedWith 23 st, p) (slotTaken (dueOwn st) st p d (duePointers st))) .0 .refusal ≡ 0 → b ≡ false
+      go true q = absurd (omega arith)
+      go false q = refl
+
+  -- the refusal of a slot's or a frame's call is its number
+  pub slot-refusal : (d : List ℕ) (m : Machine) → refusalIn (did (slot d) m .answer) ≡ []
+      → refusalIn (numbered (slotOf (m .state) (m .packet) (m .collecting) d .0 .refusal)) ≡ []
+  unfolding did
+  slot-refusal d m e = e
+
+  pub frame-refusal : (b : List ℕ) (m : Machine) → refusalIn (did (frame b) m .answer) ≡ []
+      → refusalIn (numbered (frameOf (m .state) b .refusal)) ≡ []
+  unfolding did
+  frame-refusal b m e = e
+
+  abbrev given-all : ℕ → Bool
+  given-all s = false
+
+  -- slots that are all given and accepted have their lengths
+  slots-fit : (i : ℕ) (ds : List (List ℕ)) (s : ℕ) (l : Layout) (m : Machine) (tl : Slot-state (ℕ × ℕ)) (f : ℕ → Line (List (ℕ × ℕ)))
+      (ts : List Todo) (xs : List Made) → At cfg m tl f l s → s + length ds ≡ 120 → Follows (slotsTodo given-all s ds ++ ts) m xs
+      → refusals (slotsTodo given-all s ds ++ ts) m xs ≡ [] → SlotsFit l s ds
+  unfolding slotsTodo
+  slots-fit i [] s l m tl f ts xs a n h e = tt
+  slots-fit i (d ∷ ds) s l m tl f ts xs a n h e =
+      let us = slotsTodo given-all (suc s) ds ++ ts in
+      let c = call-follows (slot d) (drain ∷ us) m xs h in
+      let k = due cfg m tl f l s a (omega (arith, n)) in
+      let q = unrefused _ (slot-refusal d m (nil-left _ _ (sym (c .refuses-on) ∙ e))) in
+      let w : wrongLength (getD (l .lengths) s 0) (length d) ≡ false =
+      subst (λ (r : ReceiverFrame). wrongLength (getD (r .layout .lengths) (r .at) 0) (length d) ≡ false) (a .frame)
+      (slot-accepted (m .state) (m .packet) (m .collecting) d k q) in
+      let x = slot-step m tl f l i s d a (omega (arith, n)) false (λ z. w) in
+      let y = item-follows cfg m (slot d) (x .does .state) _ _ l (suc s) (x .item) us xs h in
+      (w, slots-fit i ds (suc s) l _ (x .does .state) _ ts (y .calls) (x .item .at) (omega (arith, n)) (y .follows) (sym (y .refuses-on) ∙ e))
+
+  pub frames-fit : (i : ℕ) (rs : List Frame) (l : Layout) (m : Machine) (tl : Slot-state (ℕ × ℕ)) (f : ℕ → Line (List (ℕ × ℕ))) (xs : List Made)
+      → At cfg m tl f l 120 → Whole rs → Follows (reading none i rs) m xs → refusals (reading none i rs) m xs ≡ [] → FramesFit (cfg .stream) rs
+  unfolding reading
+  frames-fit i [] l m tl f xs a n h e = tt
+  frames-fit i (r ∷ rs) l m tl f xs a n h e =
+      let us = reading none (suc i) rs in
+      let ts = slotsTodo given-all 0 (r .slots) ++ us in
+      let b = r .block in
+      let c = call-follows (frame b) ts m xs h in
+      let q = frame-accepted (m .state) b (unrefused _ (frame-refusal b m (nil-left _ _ (sym (c .refuses-on) ∙ e)))) in
+      let z : decodeOf b (cfg .stream) .refusal ≡ 0 = rw (a .tracks .config) at q in
+      let l' = layoutIn (cfg .stream) r in
+      let k = call-left none (frame b) ts m (framed m l') xs (frame-did m tl f l b a z) h in
+      let g = frame-at m tl f l l' a in
+      let w = slots-fit i (r .slots) 0 l' (framed m l') tl f us (k .calls) g (omega (arith, n .0)) (k .follows) (sym (k .refuses-on) ∙ e) in
+      let v = slots-read given-all i (r .slots) 0 l' (framed m l') tl f us (k .calls) g (omega (arith, n .0)) w (k .follows) in (
+        z,
+        n .0,
+        w,
+        frames-fit (suc i) rs l' (v .machine) _ _ (v .left .calls) (v .at) (n .1) (v .left .follows)
+            (sym (v .left .refuses-on) ∙ sym (k .refuses-on) ∙ e),
+      )

@@ -1,0 +1,142 @@
+-- A refused call leaves the state and both memories as they were.
+use Prim.Native.Nat.{ℕ, zero, suc, _-_}
+use mathlib.Core.Path.{_≡_, refl, ap}
+use mathlib.Core.Bool.{Bool, true, false, cond, _||_}
+use mathlib.Core.List.{List}
+use lib.ListN.{length}
+use lib.Dec.{eqb}
+use Rattle.tmcc.specs.declared.block.Decoded.{Decoded}
+use Rattle.tmcc.specs.Block.{decodeOf}
+use Rattle.receiver.specs.declared.answer.Called.{Called}
+use Rattle.receiver.specs.declared.answer.Event.{Event}
+use Rattle.receiver.specs.declared.answer.Event.the-variants.{Nothing, Note, Unit, Refused}
+use Rattle.receiver.specs.declared.state.State.{State}
+use Rattle.receiver.specs.declared.state.Give.{Give}
+use Rattle.receiver.specs.declared.state.Give.the-variants.{Nothing as NoUnit, One, Many}
+use Rattle.receiver.specs.declared.state.Queue.{Queue}
+use Rattle.receiver.specs.declared.queue.Taken.{Taken}
+use Rattle.receiver.specs.declared.next.Found.{Found}
+use Rattle.receiver.specs.declared.next.Found.the-variants.{Note as SlotNote, Packet, Tail, Done}
+use Rattle.mmtp.specs.declared.unit.Step.{Step}
+use Rattle.mmtp.specs.declared.unit.Step.the-variants.{Unit as UnitAt, Malformed, End}
+use Rattle.receiver.specs.State.{refused as refusedWith, accepted as acceptedAs, withFrame, withQueue, withSlot}
+use Rattle.receiver.specs.Frame.{frameBusy, frameOf, lossOf, lostFrameOf}
+use Rattle.receiver.specs.Slot.{Out, refusalOf, wrongLength, dueLength, dueOwn, duePointers, slotTaken, slotOf, lossTaken, lostSlotOf, shortBy}
+use Rattle.wire.specs.Memory.{partOf}
+use Rattle.mmtp.specs.Unit.{unitAt}
+use Rattle.receiver.specs.Queue.{giveBy, manyBy, takenOf}
+use Rattle.tmcc.specs.declared.layout.Pointers.{Pointers}
+use Rattle.receiver.specs.declared.state.Aggregate.{Aggregate}
+use Rattle.receiver.specs.Next.{Out as NextOut, onwards, takenBy, readOn, nextOf, advancedOf, left}
+use Rattle.broadcast.specs.Calls.{Machine, Call, frame, lost-frame, slot, lost-slot, next, Did, did, numbered, eventAnswer, IsRefused, withState}
+
+-- a state that comes back beside a refusal is the one given
+abbrev Keeps : State → Called → Type 0
+Keeps st r = IsRefused (numbered (r .refusal)) → r .state ≡ st
+
+-- and so is packet memory
+abbrev KeepsBoth : State → List ℕ → Out → Type 0
+KeepsBoth st p r = IsRefused (numbered (r .0 .refusal)) → (r .0 .state ≡ st) × (r .1 ≡ p)
+
+-- either of two answers
+choose {ℓ} : {A : Type 0} (P : A → Type ℓ) (b : Bool) {x y : A} → P x → P y → P (cond b x y)
+choose P true h k = h
+choose P false h k = k
+
+module _ (st : State) where
+  frame-keeps : (b : List ℕ) → Keeps st (frameOf st b)
+  unfolding frameOf
+  frame-keeps b =
+      let d = decodeOf b (st .config .stream) in
+      choose (Keeps st) (eqb (length b) 1178)
+      (choose (Keeps st) (frameBusy st) (λ q. refl) (choose (Keeps st) (eqb (d .refusal) 0) (λ q. absurd q) (λ q. refl)))
+      (λ q. refl)
+
+  lost-frame-keeps : Keeps st (lostFrameOf st)
+  unfolding lostFrameOf
+  lost-frame-keeps = choose (Keeps st) (frameBusy st) (λ q. refl) (λ q. absurd q)
+
+  lost-slot-keeps : (p c : ℕ) → Keeps st (lostSlotOf st p c)
+  unfolding lostSlotOf
+  lost-slot-keeps p c = choose (Keeps st) (eqb (refusalOf st p c) 0) (λ q. absurd q) (λ q. refl)
+
+  slot-taken-keeps : (own : Bool) (p d : List ℕ) (t : Pointers) → KeepsBoth st p (slotTaken own st p d t)
+  slot-taken-keeps true p d t q = absurd q
+  slot-taken-keeps false p d t q = absurd q
+
+  slot-keeps : (p c d : List ℕ) → KeepsBoth st p (slotOf st p c d)
+  unfolding slotOf
+  slot-keeps p c d =
+      choose (KeepsBoth st p) (eqb (refusalOf st (length p) (length c)) 0)
+      (choose (KeepsBoth st p) (wrongLength (dueLength st) (length d)) (λ q. (refl, refl)) (slot-taken-keeps (dueOwn st) p d (duePointers st)))
+      (λ q. (refl, refl))
+
+-- next is refused only for its memories
+abbrev Unrefused : Event → Type 0
+Unrefused e = IsRefused (eventAnswer e) → ⊥
+
+many-unrefused : (s : Step) (a : Aggregate) (q : Queue) → Unrefused (manyBy s a q .event)
+many-unrefused (UnitAt u) a q r = r
+many-unrefused Malformed a q r = r
+many-unrefused End a q r = r
+
+give-unrefused : (g : Give) (q : Queue) (p : List ℕ) → Unrefused (giveBy g q p .event)
+give-unrefused NoUnit q p r = r
+give-unrefused (One g) q p r = r
+give-unrefused (Many a) q p r =
+    many-unrefused
+    (unitAt (partOf p (a .start) (a .end - a .start)) (a .at) (a .packet .payload .kind) (a .packet .payload .wide)) a q r
+
+taken-unrefused : (q : Queue) (p : List ℕ) → Unrefused (takenOf q p .event)
+unfolding takenOf
+taken-unrefused q p =
+    choose (λ (t : Taken). Unrefused (t .event)) (eqb (q .note) 0)
+    (choose (λ (t : Taken). Unrefused (t .event)) (q .over) (λ r. r) (give-unrefused (q .give) q p)) (λ r. r)
+
+abbrev Never : NextOut → Type 0
+Never r = Unrefused (r .0 .event)
+
+onwards-unrefused : (x : Found) (st : State) (p c : List ℕ) (more : State → List ℕ → NextOut)
+    → ((s : State) (d : List ℕ) → Never (more s d)) → Never (onwards x st p c more)
+onwards-unrefused (SlotNote n) st p c more h r = r
+onwards-unrefused (Packet s e) st p c more h r = h _ _ r
+onwards-unrefused (Tail s l) st p c more h r = h _ _ r
+onwards-unrefused Done st p c more h r = r
+
+taken-by-unrefused : (e : Event) → Unrefused e → (st : State) (p c : List ℕ) (more : State → List ℕ → NextOut)
+    → ((s : State) (d : List ℕ) → Never (more s d)) → Never (takenBy e st p c more)
+taken-by-unrefused Nothing u st p c more h r =
+    let a = advancedOf (st .cursor) p in
+    onwards-unrefused (a .found) (withSlot st (st .held) (a .cursor)) p c more h r
+taken-by-unrefused (Note n id) u st p c more h r = r
+taken-by-unrefused (Unit g) u st p c more h r = r
+taken-by-unrefused (Refused n) u st p c more h r = u r
+
+read-unrefused : (f : ℕ) (st : State) (p c : List ℕ) → Never (readOn f st p c)
+unfolding readOn
+read-unrefused zero st p c r = r
+read-unrefused (suc f) st p c r =
+    let t = takenOf (st .queue) p in
+    taken-by-unrefused (t .event) (taken-unrefused (st .queue) p) (withQueue st (t .queue)) p c (λ s d. readOn f s p d)
+    (λ s d. read-unrefused f s p d) r
+
+abbrev KeepsNext : State → List ℕ → NextOut → Type 0
+KeepsNext st c r = IsRefused (eventAnswer (r .0 .event)) → (r .0 .state ≡ st) × (r .1 ≡ c)
+
+next-keeps : (st : State) (p c : List ℕ) → KeepsNext st c (nextOf st p c)
+unfolding nextOf
+next-keeps st p c =
+    choose (KeepsNext st c) (shortBy (st .config) (length p) (length c)) (λ q. (refl, refl))
+    (choose (KeepsNext st c) (st .owed) (λ q. absurd (read-unrefused (suc (left (st .cursor))) st p c q)) (λ q. absurd q))
+
+pub did-refused : (k : Call) (m : Machine) → IsRefused (did k m .answer) → did k m .machine ≡ m
+unfolding did
+did-refused (frame b) m q = ap (withState m) (frame-keeps (m .state) b q)
+did-refused lost-frame m q = ap (withState m) (lost-frame-keeps (m .state) q)
+did-refused (slot d) m q =
+    let h = slot-keeps (m .state) (m .packet) (m .collecting) d q in
+    rw (h .0, h .1)
+did-refused lost-slot m q = ap (withState m) (lost-slot-keeps (m .state) (length (m .packet)) (length (m .collecting)) q)
+did-refused next m q =
+    let h = next-keeps (m .state) (m .packet) (m .collecting) q in
+    rw (h .0, h .1)
