@@ -13,7 +13,8 @@ use Rattle.wire.specs.Memory.{partOf}
 use Rattle.tlv.specs.Packet.{total, complete, tooLong, cut, packetAt, inFront}
 use Rattle.tlv.specs.Cuts.{complete-fits, cut-end, cut-more}
 use Rattle.receiver.specs.declared.next.Advanced.{Advanced}
-use Rattle.receiver.specs.declared.next.Found.the-variants.{Note, Packet, Tail, Done}
+use Rattle.receiver.specs.declared.answer.Event.the-variants.{Note}
+use Rattle.receiver.specs.declared.next.Found.the-variants.{Event, Packet, Tail, Done}
 use Rattle.receiver.specs.declared.state.Cursor.{Cursor}
 use Rattle.receiver.specs.declared.state.Held.{Held}
 use Rattle.receiver.specs.State.{holding, noted}
@@ -52,13 +53,15 @@ module _ (c : Cursor) (h : Held) (p : List ℕ) (g : CursorGood c h p) where
   -- the slot's own note
   note-next : eqb (c .note) 0 ≡ false → Goes c h p (advancedOf c p)
   note-next e =
-      let r : advancedOf c p ≡ record { found = Note (c .note); cursor = with 0 (c .packet) c } = unfold advancedOf in rw e in
-      rw r
-      (record {
-        gives = unfold cursorPending in rw (e, ← same-pending 0 (c .packet) c h p (c .reading));
-        leaves = same-leaves 0 (c .packet) c h p;
-        good = same-good 0 (c .packet) c h p g (g .packet-inside);
-      })
+      let r : advancedOf c p ≡ record { found = Event (Note (c .note) 0); cursor = with 0 (c .packet) c } = unfold advancedOf in rw e in
+      rw r (
+        refl,
+        record {
+          gives = unfold cursorPending in rw (e, ← same-pending 0 (c .packet) c h p (c .reading));
+          leaves = same-leaves 0 (c .packet) c h p;
+          good = same-good 0 (c .packet) c h p g (g .packet-inside);
+        },
+      )
 
   -- the packet that it completed
   packet-next : eqb (c .note) 0 ≡ true → eqb (c .packet) 0 ≡ false → Goes c h p (advancedOf c p)
@@ -175,14 +178,16 @@ module _ (n k at end : ℕ) (h : Held) (p : List ℕ) (e : eqb n 0 ≡ true) (f 
     -- its tail
     tail-next : complete bytes ≡ false → (l : Bool) → tooLong bytes ≡ l → Goes (cur true at) h p (advancedOf (cur true at) p)
     tail-next m true l =
-        let r : advancedOf (cur true at) p ≡ record { found = Note 43; cursor = noted 0 } =
+        let r : advancedOf (cur true at) p ≡ record { found = Event (Note 43 0); cursor = noted 0 } =
         unfold advancedOf slotAdvanced packetAt tailAdvanced in rw (e, f, m, l) in
-        rw r
-        (record {
-          gives = pending-slot at ∙ ap cutGives (cut-end bytes m) ∙ rw l (unfold cursorPending in refl);
-          leaves = leaves-slot at ∙ ap (cutLeaves end) (cut-end bytes m) ∙ rw l (unfold cursorLeaves in sym (g .held-none refl));
-          good = still-good 0 0 h p (omega arith);
-        })
+        rw r (
+          refl,
+          record {
+            gives = pending-slot at ∙ ap cutGives (cut-end bytes m) ∙ rw l (unfold cursorPending in refl);
+            leaves = leaves-slot at ∙ ap (cutLeaves end) (cut-end bytes m) ∙ rw l (unfold cursorLeaves in sym (g .held-none refl));
+            good = still-good 0 0 h p (omega arith);
+          },
+        )
     tail-next m false l =
         let r : advancedOf (cur true at) p ≡ record { found = Tail at (end - at); cursor = noted 0 } =
         unfold advancedOf slotAdvanced packetAt tailAdvanced in rw (e, f, m, l) in

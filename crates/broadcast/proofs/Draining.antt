@@ -13,7 +13,7 @@ use Rattle.reassembly.specs.Run.{Line, Event as Account-event}
 use Rattle.receiver.specs.declared.answer.Event.{Event}
 use Rattle.receiver.specs.declared.answer.Event.the-variants.{Nothing, Note, Unit, Refused}
 use Rattle.receiver.specs.declared.next.Found.{Found}
-use Rattle.receiver.specs.declared.next.Found.the-variants.{Note as SlotNote, Packet, Tail, Done}
+use Rattle.receiver.specs.declared.next.Found.the-variants.{Event as AnEvent, Packet, Tail, Done}
 use Rattle.receiver.specs.declared.next.Advanced.{Advanced}
 use Rattle.receiver.specs.declared.queue.Taken.{Taken}
 use Rattle.receiver.specs.declared.state.Cursor.{Cursor}
@@ -23,7 +23,7 @@ use Rattle.receiver.specs.declared.state.State.{State}
 use Rattle.receiver.specs.State.{noted, holding, empty, withOwed, withSlot, withQueue}
 use Rattle.receiver.specs.Slot.{shortBy}
 use Rattle.receiver.specs.Queue.{takenOf}
-use Rattle.receiver.specs.Next.{Out, onwards, takenBy, readOn, nextOf, advancedOf, packetOf, left}
+use Rattle.receiver.specs.Next.{Out, onwards, readOn, readAll, nextOf, advancedOf, turnBy, turnOf, past, packetOf, left}
 use Rattle.broadcast.specs.Account.{Read, readOf, afterRead, events, linesAfter}
 use Rattle.broadcast.specs.Drains.{Shown, note, unit, strip, shown, Drains, stops, notes, units, HeldIs, Tracks}
 use Rattle.broadcast.specs.Pending.{bare, Found as Waiting, slot-notes, a-packet, cursorPending, cursorLeaves, queuePending}
@@ -141,9 +141,12 @@ module _ {A : Type 0} (cfg : Config) (fr : Frame) (p : List ℕ)
         → Owes cfg fr p es tl f st c → QueueEmpty (st .queue) → queuePending (st .queue) p c ≡ []
         → Advances x (st .cursor) cur (st .held) p → ToldOut es (onwards x (withSlot st (st .held) cur) p c more)
     unfolding events linesAfter
-    found-told (SlotNote k) es st c cur h o q e a =
+    found-told (AnEvent Nothing) es st c cur h o q e a = absurd a
+    found-told (AnEvent (Note k id)) es st c cur h o q e b =
+        let a = b .1 in
         let w = note-first k (cursorPending cur p) (o .waiting) (sym (a .gives) ∙ o .finds) in
-        record {
+        rw (b .0)
+        (record {
           later = map strip (events cfg (o .now) (w .rest));
           first = waits o e ∙ ap (λ (ws : List (Slot-event A)). map strip (events cfg (o .now) ws)) (w .first);
           owes = record {
@@ -159,7 +162,9 @@ module _ {A : Type 0} (cfg : Config) (fr : Frame) (p : List ℕ)
             leaves = rw (a .leaves) at (o .leaves);
             ends = ap (linesAfter cfg (o .now)) (sym (w .first)) ∙ o .ends;
           };
-        }
+        })
+    found-told (AnEvent (Unit g)) es st c cur h o q e a = absurd a
+    found-told (AnEvent (Refused n)) es st c cur h o q e a = absurd a
     found-told (Packet s t) es st c cur h o q e a =
         let st' = withSlot st (st .held) cur in
         let b = partOf p s (t - s) in
@@ -225,7 +230,8 @@ module _ {A : Type 0} (cfg : Config) (fr : Frame) (p : List ℕ)
 
     -- what was taken from the queue, or, where it is empty, found next
     taken-told : (e : Event) (es : List Shown) (st : State) (c : List ℕ) (q : Queue) → left (st .cursor) < suc n
-        → Owes cfg fr p es tl f st c → Takes e (st .queue) q p c → QueueGood q p → ToldOut es (takenBy e (withQueue st q) p c more)
+        → Owes cfg fr p es tl f st c → Takes e (st .queue) q p c → QueueGood q p
+        → (let t = turnBy e q (st .cursor) p in ToldOut es (onwards (t .found) (past st t) p c more))
     taken-told Nothing es st c q h o t g =
         let st' = withQueue st q in
         let o' : Owes cfg fr p es tl f st' c =
@@ -285,7 +291,7 @@ module _ {A : Type 0} (cfg : Config) (fr : Frame) (p : List ℕ)
   -- reading on, with fuel for all that the cursor has left
   read-told : (n : ℕ) (es : List Shown) (st : State) (c : List ℕ) → left (st .cursor) < n → Owes cfg fr p es tl f st c
       → ToldOut es (readOn n st p c)
-  unfolding readOn
+  unfolding readOn turnOf
   read-told zero es st c h o = absurd (omega arith)
   read-told (suc n) es st c h o =
       let t = takenOf (st .queue) p in
@@ -295,7 +301,7 @@ module _ {A : Type 0} (cfg : Config) (fr : Frame) (p : List ℕ)
   -- a call of next
   next-reads : (st : State) (c : List ℕ) → st .config ≡ cfg → st .owed ≡ true → cfg .watch .n * cfg .limit ≤ length c
       → nextOf st p c ≡ readOn (suc (left (st .cursor))) st p c
-  unfolding nextOf shortBy
+  unfolding nextOf readAll shortBy
   next-reads st c e o h = rw (e, o, le-ltb _ _ long, le-ltb _ _ h)
 
   settle-by : (es : List Shown) (st st' : State) (c c' : List ℕ) (e : Event) → nextOf st p c ≡ (record { event = e; state = st' }, c')

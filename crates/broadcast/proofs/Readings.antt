@@ -18,7 +18,7 @@ use Rattle.receiver.specs.declared.state.Frame.{Frame as ReceiverFrame}
 use Rattle.receiver.specs.declared.answer.Event.the-variants.{Nothing, Refused}
 use Rattle.receiver.specs.declared.state.State.{State}
 use Rattle.receiver.specs.State.{accepted as acceptedAs, refused as refusedWith}
-use Rattle.receiver.specs.Next.{answered, readOn, left, nextOf}
+use Rattle.receiver.specs.Next.{answered, readOn, readAll, left, nextOf}
 use Rattle.receiver.specs.Slot.{wrongLength, slotOf, lostSlotOf, lossTaken, dueOwn, shortBy, refusalOf as slotRefusal}
 use Rattle.receiver.specs.Frame.{frameBusy, frameOf, lossOf, lostFrameOf}
 use Rattle.broadcast.specs.Account.{account, events, linesAfter}
@@ -172,7 +172,7 @@ lost-due st p c e = go (eqb (slotRefusal st p c) 0) refl e
 
 next-long : (m : Machine) → refusalIn (did next m .answer) ≡ []
     → (21433 ≤ length (m .packet)) × (m .state .config .watch .n * m .state .config .limit ≤ length (m .collecting))
-unfolding did nextOf shortBy
+unfolding did nextOf readAll shortBy
 next-long m e = go (ltb (length (m .packet)) 21433) (ltb (length (m .collecting)) (m .state .config .watch .n * m .state .config .limit)) refl refl e
   where
     st : State

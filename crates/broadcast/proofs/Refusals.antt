@@ -3,7 +3,7 @@ use Prim.Native.Nat.{ℕ, zero, suc, _-_}
 use mathlib.Core.Path.{_≡_, refl, ap}
 use mathlib.Core.Bool.{Bool, true, false, cond, _||_}
 use mathlib.Core.List.{List}
-use lib.ListN.{length}
+use lib.ListN.{length, drop}
 use lib.Dec.{eqb}
 use Rattle.tmcc.specs.declared.block.Decoded.{Decoded}
 use Rattle.tmcc.specs.Block.{decodeOf}
@@ -16,7 +16,10 @@ use Rattle.receiver.specs.declared.state.Give.the-variants.{Nothing as NoUnit, 
 use Rattle.receiver.specs.declared.state.Queue.{Queue}
 use Rattle.receiver.specs.declared.queue.Taken.{Taken}
 use Rattle.receiver.specs.declared.next.Found.{Found}
-use Rattle.receiver.specs.declared.next.Found.the-variants.{Note as SlotNote, Packet, Tail, Done}
+use Rattle.receiver.specs.declared.next.Found.the-variants.{Event as AnEvent, Packet, Tail, Done}
+use Rattle.receiver.specs.declared.next.Advanced.{Advanced}
+use Rattle.receiver.specs.declared.next.Turn.{Turn}
+use Rattle.receiver.specs.declared.state.Cursor.{Cursor}
 use Rattle.mmtp.specs.declared.unit.Step.{Step}
 use Rattle.mmtp.specs.declared.unit.Step.the-variants.{Unit as UnitAt, Malformed, End}
 use Rattle.receiver.specs.State.{refused as refusedWith, accepted as acceptedAs, withFrame, withQueue, withSlot}
@@ -27,7 +30,10 @@ use Rattle.mmtp.specs.Unit.{unitAt}
 use Rattle.receiver.specs.Queue.{giveBy, manyBy, takenOf}
 use Rattle.tmcc.specs.declared.layout.Pointers.{Pointers}
 use Rattle.receiver.specs.declared.state.Aggregate.{Aggregate}
-use Rattle.receiver.specs.Next.{Out as NextOut, onwards, takenBy, readOn, nextOf, advancedOf, left}
+use Rattle.tlv.specs.declared.packet.Next.{Next as TlvNext}
+use Rattle.tlv.specs.declared.packet.Next.the-variants.{Packet as PacketTo, Tail as TailAt}
+use Rattle.tlv.specs.Packet.{packetAt, tooLong}
+use Rattle.receiver.specs.Next.{Out as NextOut, onwards, readOn, readAll, nextOf, tailAdvanced, advancedBy, slotAdvanced, advancedOf, turnBy, turnOf, past, left}
 use Rattle.broadcast.specs.Calls.{Machine, Call, frame, lost-frame, slot, lost-slot, next, Did, did, numbered, eventAnswer, IsRefused, withState}
 
 -- a state that comes back beside a refusal is the one given
@@ -96,35 +102,56 @@ taken-unrefused q p =
 abbrev Never : NextOut → Type 0
 Never r = Unrefused (r .0 .event)
 
-onwards-unrefused : (x : Found) (st : State) (p c : List ℕ) (more : State → List ℕ → NextOut)
-    → ((s : State) (d : List ℕ) → Never (more s d)) → Never (onwards x st p c more)
-onwards-unrefused (SlotNote n) st p c more h r = r
-onwards-unrefused (Packet s e) st p c more h r = h _ _ r
-onwards-unrefused (Tail s l) st p c more h r = h _ _ r
-onwards-unrefused Done st p c more h r = r
+-- what is found is no refusal
+abbrev FoundGood : Found → Type 0
+FoundGood (AnEvent e) = Unrefused e
+FoundGood (Packet s e) = Prim.Unit {0}
+FoundGood (Tail s l) = Prim.Unit {0}
+FoundGood Done = Prim.Unit {0}
 
-taken-by-unrefused : (e : Event) → Unrefused e → (st : State) (p c : List ℕ) (more : State → List ℕ → NextOut)
-    → ((s : State) (d : List ℕ) → Never (more s d)) → Never (takenBy e st p c more)
-taken-by-unrefused Nothing u st p c more h r =
-    let a = advancedOf (st .cursor) p in
-    onwards-unrefused (a .found) (withSlot st (st .held) (a .cursor)) p c more h r
-taken-by-unrefused (Note n id) u st p c more h r = r
-taken-by-unrefused (Unit g) u st p c more h r = r
-taken-by-unrefused (Refused n) u st p c more h r = u r
+by-tail : (s : List ℕ) (at end : ℕ) → FoundGood (tailAdvanced s at end .found)
+unfolding tailAdvanced
+by-tail s at end = choose FoundGood (tooLong (drop at s)) (λ r. r) tt
+
+by-slot : (x : TlvNext) (c : Cursor) (s : List ℕ) → FoundGood (advancedBy x c s .found)
+by-slot (PacketTo e) c s = tt
+by-slot TailAt c s = by-tail s (c .at) (c .end)
+
+advanced-good : (c : Cursor) (p : List ℕ) → FoundGood (advancedOf c p .found)
+unfolding advancedOf slotAdvanced
+advanced-good c p =
+    choose (λ (a : Advanced). FoundGood (a .found)) (eqb (c .note) 0)
+    (choose (λ (a : Advanced). FoundGood (a .found)) (eqb (c .packet) 0)
+    (choose (λ (a : Advanced). FoundGood (a .found)) (c .reading) (by-slot (packetAt (partOf p 0 (c .end)) (c .at)) c (partOf p 0 (c .end))) tt) tt)
+    (λ r. r)
+
+turned-good : (e : Event) → Unrefused e → (q : Queue) (c : Cursor) (p : List ℕ) → FoundGood (turnBy e q c p .found)
+turned-good Nothing u q c p = advanced-good c p
+turned-good (Note n id) u q c p = u
+turned-good (Unit g) u q c p = u
+turned-good (Refused n) u q c p = u
+
+onwards-unrefused : (x : Found) → FoundGood x → (st : State) (p c : List ℕ) (more : State → List ℕ → NextOut)
+    → ((s : State) (d : List ℕ) → Never (more s d)) → Never (onwards x st p c more)
+onwards-unrefused (AnEvent e) g st p c more h r = g r
+onwards-unrefused (Packet s e) g st p c more h r = h _ _ r
+onwards-unrefused (Tail s l) g st p c more h r = h _ _ r
+onwards-unrefused Done g st p c more h r = r
 
 read-unrefused : (f : ℕ) (st : State) (p c : List ℕ) → Never (readOn f st p c)
-unfolding readOn
+unfolding readOn turnOf
 read-unrefused zero st p c r = r
 read-unrefused (suc f) st p c r =
-    let t = takenOf (st .queue) p in
-    taken-by-unrefused (t .event) (taken-unrefused (st .queue) p) (withQueue st (t .queue)) p c (λ s d. readOn f s p d)
-    (λ s d. read-unrefused f s p d) r
+    let k = takenOf (st .queue) p in
+    let t = turnBy (k .event) (k .queue) (st .cursor) p in
+    onwards-unrefused (t .found) (turned-good (k .event) (taken-unrefused (st .queue) p) (k .queue) (st .cursor) p) (past st t) p c
+    (λ s d. readOn f s p d) (λ s d. read-unrefused f s p d) r
 
 abbrev KeepsNext : State → List ℕ → NextOut → Type 0
 KeepsNext st c r = IsRefused (eventAnswer (r .0 .event)) → (r .0 .state ≡ st) × (r .1 ≡ c)
 
 next-keeps : (st : State) (p c : List ℕ) → KeepsNext st c (nextOf st p c)
-unfolding nextOf
+unfolding nextOf readAll
 next-keeps st p c =
     choose (KeepsNext st c) (shortBy (st .config) (length p) (length c)) (λ q. (refl, refl))
     (choose (KeepsNext st c) (st .owed) (λ q. absurd (read-unrefused (suc (left (st .cursor))) st p c q)) (λ q. absurd q))

@@ -10,7 +10,7 @@ use Rattle.wire.specs.Memory.{partOf, pasted, length-pasted}
 use Rattle.tlv.specs.Packet.{cut}
 use Rattle.tlv.specs.Cuts.{cut-tail, cut-tail-length}
 use Rattle.receiver.specs.declared.state.Held.{Held}
-use Rattle.receiver.specs.Slot.{slotArea, copied, continuedMem, heldBytes, heldLen}
+use Rattle.receiver.specs.Slot.{slotArea, copied, movedMem, continuedMem, heldBytes, heldLen}
 
 module _ (p : List ℕ) where
   pub part-is : (s n : ℕ) → s + n ≤ length p → partOf p s n ≡ take n (drop s p)
@@ -122,11 +122,11 @@ module _ (h : Held) (p d : List ℕ) (k : ℕ) (inside : h .start + h .len ≤ l
       ∙ sym (part-is p (h .start) (h .len) inside)
 
   pub length-continued : length (continuedMem h p d k) ≡ length p
-  unfolding continuedMem
+  unfolding continuedMem movedMem
   length-continued = length-pasted moved (heldLen h p) d k (rw length-moved fits) enough ∙ length-moved
 
   pub continued-front : take (heldLen h p + k) (continuedMem h p d k) ≡ heldBytes h p ++ take k d
-  unfolding continuedMem pasted
+  unfolding continuedMem movedMem pasted
   continued-front =
       take-paste moved (heldLen h p) d k (rw length-moved (omega arith)) enough
       ∙ ap (λ (b : List ℕ). b ++ take k d) moved-front

@@ -11,7 +11,9 @@ use Rattle.tlv.specs.Run.{Slot, State as Slot-state, searching as slot-searchin
 use Rattle.reassembly.specs.declared.config.Config.{Config}
 use Rattle.reassembly.specs.Run.{Line}
 use Rattle.receiver.specs.declared.next.Found.{Found}
-use Rattle.receiver.specs.declared.next.Found.the-variants.{Note, Packet, Tail, Done}
+use Rattle.receiver.specs.declared.answer.Event.{Event as AnEvent}
+use Rattle.receiver.specs.declared.answer.Event.the-variants.{Nothing, Note, Unit as Given-unit, Refused}
+use Rattle.receiver.specs.declared.next.Found.the-variants.{Event, Packet, Tail, Done}
 use Rattle.receiver.specs.declared.state.Cursor.{Cursor}
 use Rattle.receiver.specs.declared.state.Frame.{Frame}
 use Rattle.receiver.specs.declared.state.Held.{Held}
@@ -105,8 +107,15 @@ pub record DoneNext (c c' : Cursor) (h : Held) (p : List ℕ) : Type 0 where
   pub stays : c' ≡ c
   pub over : c ≡ noted 0
 
+-- of events the cursor gives only notes, which have no packet_id
+abbrev pub Gives : AnEvent → Cursor → Cursor → Held → List ℕ → Type 0
+Gives Nothing c c' h p = ⊥
+Gives (Note n id) c c' h p = (id ≡ 0) × NoteNext n c c' h p
+Gives (Given-unit g) c c' h p = ⊥
+Gives (Refused n) c c' h p = ⊥
+
 abbrev pub Advances : Found → Cursor → Cursor → Held → List ℕ → Type 0
-Advances (Note n) c c' h p = NoteNext n c c' h p
+Advances (Event e) c c' h p = Gives e c c' h p
 Advances (Packet s e) c c' h p = PacketNext s e c c' h p
 Advances (Tail s l) c c' h p = TailNext s l c c' h p
 Advances Done c c' h p = DoneNext c c' h p
