@@ -46,7 +46,10 @@ unfoldable pub takenOf : Queue → List ℕ → Taken
 takenOf q p =
     cond (eqb (q .note) 0)
     (cond (q .over)
-    (record { event = Note 64 (q .«packet_id»); queue = record { note = 0; over = false; «packet_id» = q .«packet_id»; give = q .give } })
+    (record {
+      event = Note 64 (q .«packet_id»);
+      queue = record { note = 0; over = false; «packet_id» = q .«packet_id»; give = q .give };
+    })
     (giveBy (q .give) q p))
     (record {
       event = Note (q .note) (q .«packet_id»);
