@@ -211,6 +211,16 @@ module _ (cur : Cursor) (p : List ℕ) where
   unfolding slotAdvanced
   slot-tail h = rw h
 
+-- the tail
+module _ (s : List ℕ) (at end : ℕ) where
+  pub tail-long : tooLong (drop at s) ≡ true → tailAdvanced s at end ≡ record { found = Event (Note 43 0); cursor = noted 0 }
+  unfolding tailAdvanced
+  tail-long h = rw h
+
+  pub tail-held : tooLong (drop at s) ≡ false → tailAdvanced s at end ≡ record { found = Tail at (end - at); cursor = noted 0 }
+  unfolding tailAdvanced
+  tail-held h = rw h
+
 -- what a packet leaves, case by case
 module _ (st : State) (p c : List ℕ) (start end : ℕ) where
   pub packet-silent : arrivedAt (st .config) p start end ≡ Silent → packetOf st p c start end ≡ (st, c)
