@@ -186,12 +186,15 @@ module _ (cur : Cursor) (p : List ℕ) where
   pub advanced-slot : cur .note ≡ 0 → cur .packet ≡ 0 → cur .reading ≡ true → advancedOf cur p ≡ slotAdvanced cur p
   unfolding advancedOf
   advanced-slot h k r =
-      chosen (eqb (cur .note) 0) _ _ (eq-eqb _ _ h) ∙ chosen (eqb (cur .packet) 0) _ _ (eq-eqb _ _ k) ∙ chosen (cur .reading) _ _ r
+      chosen (eqb (cur .note) 0) _ _ (eq-eqb _ _ h) ∙ chosen (eqb (cur .packet) 0) _ _ (eq-eqb _ _ k)
+      ∙ chosen (cur .reading) _ _ r
 
-  pub advanced-done : cur .note ≡ 0 → cur .packet ≡ 0 → cur .reading ≡ false → advancedOf cur p ≡ record { found = Done; cursor = cur }
+  pub advanced-done : cur .note ≡ 0 → cur .packet ≡ 0 → cur .reading ≡ false
+      → advancedOf cur p ≡ record { found = Done; cursor = cur }
   unfolding advancedOf
   advanced-done h k r =
-      chosen (eqb (cur .note) 0) _ _ (eq-eqb _ _ h) ∙ chosen (eqb (cur .packet) 0) _ _ (eq-eqb _ _ k) ∙ chosen-not (cur .reading) _ _ r
+      chosen (eqb (cur .note) 0) _ _ (eq-eqb _ _ h) ∙ chosen (eqb (cur .packet) 0) _ _ (eq-eqb _ _ k)
+      ∙ chosen-not (cur .reading) _ _ r
 
   -- in the slot: a packet, or its tail
   pub slot-packet : (e : ℕ) → packetAt (partOf p 0 (cur .end)) (cur .at) ≡ PacketTo e
@@ -207,6 +210,16 @@ module _ (cur : Cursor) (p : List ℕ) where
       → slotAdvanced cur p ≡ tailAdvanced (partOf p 0 (cur .end)) (cur .at) (cur .end)
   unfolding slotAdvanced
   slot-tail h = rw h
+
+-- the tail
+module _ (s : List ℕ) (at end : ℕ) where
+  pub tail-long : tooLong (drop at s) ≡ true → tailAdvanced s at end ≡ record { found = Event (Note 43 0); cursor = noted 0 }
+  unfolding tailAdvanced
+  tail-long h = rw h
+
+  pub tail-held : tooLong (drop at s) ≡ false → tailAdvanced s at end ≡ record { found = Tail at (end - at); cursor = noted 0 }
+  unfolding tailAdvanced
+  tail-held h = rw h
 
 -- what a packet leaves, case by case
 module _ (st : State) (p c : List ℕ) (start end : ℕ) where

@@ -1,7 +1,7 @@
 -- A TLV packet in packet memory: read, and joined to the state of its packet_id over collecting memory.
 use Prim.Native.Nat.{ℕ, _+_, _-_, _*_, _≤_, _<_}
 use mathlib.Core.Bool.{Bool, true, false, cond}
-use mathlib.Core.Path.{_≡_}
+use mathlib.Core.Path.{_≡_, ap}
 use mathlib.Core.List.{List}
 use lib.ListN.{drop}
 use Rattle.wire.specs.Memory.{partOf, pasted}
@@ -195,3 +195,9 @@ module _ (c : Config) (p : List ℕ) (start end : ℕ) where
       → arrivedAt c p start end ≡ readBy (readingOf (drop n (partOf p start (end - start))) (c .watch)) (start + n) end
   unfolding arrivedAt
   arrived-mmtp n e = rw e
+
+-- a packet is joined by its step
+pub joined-by : (ch : Channel) (l : Located) (p c : List ℕ) (limit : ℕ) (j : Joined) → stepOf ch l p limit ≡ j
+    → joinedOf ch l p c limit ≡ joinedBy j l (bytesAt l p) (unitIn l p) c (baseOf l limit)
+unfolding joinedOf
+joined-by ch l p c limit j e = ap (λ (x : Joined). joinedBy x l (bytesAt l p) (unitIn l p) c (baseOf l limit)) e

@@ -1,6 +1,6 @@
 -- What next has yet to give of a packet, one event at a time: its note, note 64, its units.
 use Prim.Native.Nat.{ℕ, _-_}
-use mathlib.Core.Path.{_≡_, _∙_}
+use mathlib.Core.Path.{_≡_, _∙_, ap}
 use mathlib.Core.Bool.{true, false, cond}
 use mathlib.Core.List.{List}
 use borrow.Author.Tests.{eq-eqb, ne-eqb}
@@ -11,6 +11,7 @@ use Rattle.mmtp.specs.declared.unit.Step.{Step}
 use Rattle.mmtp.specs.declared.unit.Step.the-variants.{Unit as UnitAt, Malformed, End}
 use Rattle.mmtp.specs.Unit.{unitAt}
 use Rattle.receiver.specs.declared.answer.Event.the-variants.{Nothing, Note, Unit}
+use Rattle.receiver.specs.declared.answer.Given.{Given}
 use Rattle.receiver.specs.declared.state.Give.{Give}
 use Rattle.receiver.specs.declared.state.Give.the-variants.{Nothing as NoUnit, One, Many}
 use Rattle.receiver.specs.declared.state.Aggregate.{Aggregate}
@@ -35,18 +36,24 @@ manyBy (UnitAt u) a q =
 manyBy Malformed a q = finished q
 manyBy End a q = finished q
 
+-- what stands at the next unit's place
+abbrev pub nextUnit : Aggregate → List ℕ → Step
+nextUnit a p = unitAt (partOf p (a .start) (a .end - a .start)) (a .at) (a .packet .payload .kind) (a .packet .payload .wide)
+
 abbrev pub giveBy : Give → Queue → List ℕ → Taken
 giveBy NoUnit q p = record { event = Nothing; queue = q }
 giveBy (One g) q p = record { event = Unit g; queue = giving q NoUnit }
-giveBy (Many a) q p =
-    manyBy (unitAt (partOf p (a .start) (a .end - a .start)) (a .at) (a .packet .payload .kind) (a .packet .payload .wide)) a q
+giveBy (Many a) q p = manyBy (nextUnit a p) a q
 
 -- the event, Nothing where the queue is empty, and the queue after it
 unfoldable pub takenOf : Queue → List ℕ → Taken
 takenOf q p =
     cond (eqb (q .note) 0)
     (cond (q .over)
-    (record { event = Note 64 (q .«packet_id»); queue = record { note = 0; over = false; «packet_id» = q .«packet_id»; give = q .give } })
+    (record {
+      event = Note 64 (q .«packet_id»);
+      queue = record { note = 0; over = false; «packet_id» = q .«packet_id»; give = q .give };
+    })
     (giveBy (q .give) q p))
     (record {
       event = Note (q .note) (q .«packet_id»);
@@ -77,3 +84,17 @@ module _ (q : Queue) (p : List ℕ) where
   pub taken-give : q .note ≡ 0 → q .over ≡ false → takenOf q p ≡ giveBy (q .give) q p
   unfolding takenOf
   taken-give h o = chosen (eqb (q .note) 0) _ _ (eq-eqb (q .note) 0 h) ∙ chosen-not (q .over) _ _ o
+
+  -- its units, one at a time
+  module _ (h : q .note ≡ 0) (o : q .over ≡ false) where
+    taken-by : (g : Give) → q .give ≡ g → takenOf q p ≡ giveBy g q p
+    taken-by g e = taken-give h o ∙ ap (λ (x : Give). giveBy x q p) e
+
+    pub taken-nothing : q .give ≡ NoUnit → takenOf q p ≡ record { event = Nothing; queue = q }
+    taken-nothing e = taken-by NoUnit e
+
+    pub taken-one : (g : Given) → q .give ≡ One g → takenOf q p ≡ record { event = Unit g; queue = giving q NoUnit }
+    taken-one g e = taken-by (One g) e
+
+    pub taken-many : (a : Aggregate) → q .give ≡ Many a → (s : Step) → nextUnit a p ≡ s → takenOf q p ≡ manyBy s a q
+    taken-many a e s n = taken-by (Many a) e ∙ ap (λ (x : Step). manyBy x a q) n

@@ -32,7 +32,35 @@ use Rattle.receiver.specs.Packet.{arrivedAt, placeOf, receivedOf}
 use Rattle.receiver.specs.Within.{part-length, arrived-fits, length-received}
 use Rattle.receiver.specs.Queue.{takenOf}
 use Rattle.receiver.specs.Slot.{shortBy}
-use Rattle.receiver.specs.Next.{Out, answered, tailAdvanced, slotAdvanced, advancedOf, arrivedBy, packetOf, isEvent, turnOf, past, onwards, readOn, left, readAll, nextOf, turn-event, turn-on, advanced-note, advanced-packet, advanced-slot, advanced-done, slot-packet, slot-tail, next-short, next-idle, next-reads, short-room}
+use Rattle.receiver.specs.Next.{
+  Out,
+  answered,
+  tailAdvanced,
+  slotAdvanced,
+  advancedOf,
+  arrivedBy,
+  packetOf,
+  isEvent,
+  turnOf,
+  past,
+  onwards,
+  readOn,
+  left,
+  readAll,
+  nextOf,
+  turn-event,
+  turn-on,
+  advanced-note,
+  advanced-packet,
+  advanced-slot,
+  advanced-done,
+  slot-packet,
+  slot-tail,
+  next-short,
+  next-idle,
+  next-reads,
+  short-room,
+}
 
 -- next reads on from what was found
 abbrev pub goesOn : Found → Bool
@@ -81,10 +109,12 @@ module _ (cur : Cursor) (p : List ℕ) where
   pub advanced-less : goesOn (advancedOf cur p .found) ≡ true → left (advancedOf cur p .cursor) < left cur
   advanced-less = note-less (eqb (cur .note) 0) refl
 
-pub turn-less : (q : Queue) (cur : Cursor) (p : List ℕ) → goesOn (turnOf q cur p .found) ≡ true → left (turnOf q cur p .cursor) < left cur
+pub turn-less : (q : Queue) (cur : Cursor) (p : List ℕ) → goesOn (turnOf q cur p .found) ≡ true
+    → left (turnOf q cur p .cursor) < left cur
 turn-less q cur p = go (isEvent (takenOf q p .event)) refl
   where
-    go : (b : Bool) → isEvent (takenOf q p .event) ≡ b → goesOn (turnOf q cur p .found) ≡ true → left (turnOf q cur p .cursor) < left cur
+    go : (b : Bool) → isEvent (takenOf q p .event) ≡ b → goesOn (turnOf q cur p .found) ≡ true
+        → left (turnOf q cur p .cursor) < left cur
     go true e = rw (turn-event q cur p e) (λ g. absurd (true≢false (sym g)))
     go false e = rw (turn-on q cur p e) (advanced-less cur p)
 
@@ -203,8 +233,12 @@ pub record Calm (st : State) (c : List ℕ) (o : Out) : Type 0 where
   pub frame : o .0 .state .frame ≡ st .frame
   pub size : length (o .1) ≡ length c
 
-onwards-calm : (x : Found) (st : State) (p c : List ℕ) (f : State → List ℕ → Out) → st .config .watch .n * st .config .limit ≤ length c
-    → ((s : State) (d : List ℕ) → s .config .watch .n * s .config .limit ≤ length d → Calm s d (f s d)) → Calm st c (onwards x st p c f)
+-- collecting memory has room for every packet_id
+abbrev pub Ample : State → List ℕ → Type 0
+Ample st c = st .config .watch .n * st .config .limit ≤ length c
+
+onwards-calm : (x : Found) (st : State) (p c : List ℕ) (f : State → List ℕ → Out) → Ample st c
+    → ((s : State) (d : List ℕ) → Ample s d → Calm s d (f s d)) → Calm st c (onwards x st p c f)
 onwards-calm (Event e) st p c f h k = record { config = refl; frame = refl; size = refl }
 onwards-calm (Packet start end) st p c f h k =
     let r = packetOf st p c start end in
@@ -217,7 +251,7 @@ onwards-calm (Tail start len) st p c f h k =
     record { config = i .config; frame = i .frame; size = i .size }
 onwards-calm Done st p c f h k = record { config = refl; frame = refl; size = refl }
 
-read-on-calm : (f : ℕ) (st : State) (p c : List ℕ) → st .config .watch .n * st .config .limit ≤ length c → Calm st c (readOn f st p c)
+read-on-calm : (f : ℕ) (st : State) (p c : List ℕ) → Ample st c → Calm st c (readOn f st p c)
 unfolding readOn
 read-on-calm zero st p c h = record { config = refl; frame = refl; size = refl }
 read-on-calm (suc f) st p c h =

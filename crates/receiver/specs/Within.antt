@@ -33,19 +33,54 @@ use Rattle.reassembly.specs.declared.join.Action.{Action}
 use Rattle.reassembly.specs.declared.join.Action.the-variants.{Nothing as NoAction, Whole, Store, Complete}
 use Rattle.reassembly.specs.Unit.{agrees}
 use Rattle.reassembly.specs.Channel.{gap}
-use Rattle.reassembly.specs.Join.{joinOf, acted, actedBy, begun, followed, followedIn, extended, grown, recorded, inPhase, counterFollows}
+use Rattle.reassembly.specs.Join.{
+  joinOf,
+  acted,
+  actedBy,
+  begun,
+  followed,
+  followedIn,
+  extended,
+  grown,
+  recorded,
+  inPhase,
+  counterFollows,
+}
 use Rattle.receiver.specs.Choice.{by-test}
 use Rattle.receiver.specs.declared.state.Queue.{Queue}
 use Rattle.receiver.specs.declared.packet.Located.{Located}
 use Rattle.receiver.specs.declared.packet.Arrived.{Arrived}
 use Rattle.receiver.specs.declared.packet.Arrived.the-variants.{Silent, Noted, Good}
-use Rattle.receiver.specs.Packet.{readBy, flowBy, arrivedAt, firstUnit, unitOr, unitLen, blankUnit, Room, Reach, placeOf, Fits, Unit₀, collected, bytesAt, unitIn, baseOf, stepOf, pieceFrom, joinedOf, receivedOf}
+use Rattle.receiver.specs.Packet.{
+  readBy,
+  flowBy,
+  arrivedAt,
+  firstUnit,
+  unitOr,
+  unitLen,
+  blankUnit,
+  Room,
+  Reach,
+  placeOf,
+  Fits,
+  Unit₀,
+  collected,
+  bytesAt,
+  unitIn,
+  baseOf,
+  stepOf,
+  pieceFrom,
+  joinedOf,
+  receivedOf,
+}
 
 -- a part of a memory
 module _ (s : List ℕ) (start len : ℕ) where
+  abbrev Lies : List ℕ → Type 0
+  Lies b = (0 < length b → start + length b ≤ length s) × (length b ≤ len)
+
   part-by : (a b : Bool) → leb start (length s) ≡ a → leb len (length s - start) ≡ b
-      → (0 < length (cond a (cond b (take len (drop start s)) []) []) → start + length (cond a (cond b (take len (drop start s)) []) []) ≤ length s)
-      × (length (cond a (cond b (take len (drop start s)) []) []) ≤ len)
+      → Lies (cond a (cond b (take len (drop start s)) []) [])
   part-by false b p q = (λ h. omega arith, omega arith)
   part-by true false p q = (λ h. omega arith, omega arith)
   part-by true true p q =
@@ -101,31 +136,35 @@ unfolding firstUnit
 first-inside m y = first-by m y (y .aggregated)
 
 -- a packet that is read has a place in the watch list
+pub record Watched (c : Config) (l : Located) : Type 0 where
+  pub low : l .packet .place < 16
+  pub listed : l .packet .place < c .watch .n
+  pub id : getD (c .watch .ids) (l .packet .place) 0 ≡ l .packet .«packet_id»
+
 module _ (c : Config) (p : List ℕ) (start end : ℕ) where
   reading-place : (b : List ℕ) (r : Reading) (from : ℕ) (l : Located) → readingOf b (c .watch) ≡ r → readBy r from end ≡ Good l
-      → (l .packet .place < 16) × (l .packet .place < c .watch .n) × (getD (c .watch .ids) (l .packet .place) 0 ≡ l .packet .«packet_id»)
+      → Watched c l
   reading-place b Unwatched from l e q = let z : _≡_ {A = ℕ} 0 1 = cc in absurd (omega arith)
   reading-place b BadHeader from l e q = let z : _≡_ {A = ℕ} 0 1 = cc in absurd (omega arith)
   reading-place b (BadPayload id) from l e q = let z : _≡_ {A = ℕ} 0 1 = cc in absurd (omega arith)
   reading-place b (GoodPacket k) from l e q =
       let r : record { packet = k; start = from; end = end } ≡ l = cc in
-      rw (← r) (packet-place b (c .watch) k e)
+      let w = packet-place b (c .watch) k e in
+      rw (← r) (record { low = w .0; listed = w .1; id = w .2 })
 
-  flow-place : (b : List ℕ) (f : Flow) (l : Located) → flowBy f c b start end ≡ Good l
-      → (l .packet .place < 16) × (l .packet .place < c .watch .n) × (getD (c .watch .ids) (l .packet .place) 0 ≡ l .packet .«packet_id»)
+  flow-place : (b : List ℕ) (f : Flow) (l : Located) → flowBy f c b start end ≡ Good l → Watched c l
   flow-place b OtherFlow l q = let z : _≡_ {A = ℕ} 0 1 = cc in absurd (omega arith)
   flow-place b Malformed l q = let z : _≡_ {A = ℕ} 0 1 = cc in absurd (omega arith)
   flow-place b (Mmtp n) l q = reading-place (drop n b) (readingOf (drop n b) (c .watch)) (start + n) l refl q
 
-  pub arrived-place : (l : Located) → arrivedAt c p start end ≡ Good l
-      → (l .packet .place < 16) × (l .packet .place < c .watch .n) × (getD (c .watch .ids) (l .packet .place) 0 ≡ l .packet .«packet_id»)
+  pub arrived-place : (l : Located) → arrivedAt c p start end ≡ Good l → Watched c l
   unfolding arrivedAt
   arrived-place l q = let b = partOf p start (end - start) in flow-place b (flowOf b (c .cid)) l q
 
   pub arrived-below : (a : Arrived) → arrivedAt c p start end ≡ a → placeOf a < 16
   arrived-below Silent e = omega arith
   arrived-below (Noted n id) e = omega arith
-  arrived-below (Good l) e = arrived-place l e .0
+  arrived-below (Good l) e = arrived-place l e .low
 
   -- and room where it collects
   pub arrived-fits : (a : Arrived) (n : ℕ) → arrivedAt c p start end ≡ a → c .watch .n * c .limit ≤ n → Fits a (c .limit) n
@@ -134,7 +173,7 @@ module _ (c : Config) (p : List ℕ) (start end : ℕ) where
   arrived-fits (Good l) n e h =
       let k : ℕ = l .packet .place in
       let r : k * c .limit + c .limit ≤ c .watch .n * c .limit =
-      rw suc-mul at (mul-le-mul-right (c .limit) (arrived-place l e .1)) in
+      rw suc-mul at (mul-le-mul-right (c .limit) (arrived-place l e .listed)) in
       omega arith
 
 -- what an action stores ends within the limit
@@ -234,6 +273,7 @@ length-received (Noted n id) ch q p c limit h = refl
 length-received (Good l) ch q p c limit h = length-joined ch l p c limit h
 
 -- the first bytes of a list, put into a memory
-pub pasted-take : (d : List ℕ) (at : ℕ) (s : List ℕ) (n : ℕ) → n ≤ length s → pasted d at (take n s) (length (take n s)) ≡ pasted d at s n
+pub pasted-take : (d : List ℕ) (at : ℕ) (s : List ℕ) (n : ℕ) → n ≤ length s
+    → pasted d at (take n s) (length (take n s)) ≡ pasted d at s n
 unfolding pasted
 pasted-take d at s n h = let e : length (take n s) ≡ n = length-take-le n s h in rw (e, take-take n n s (omega arith))

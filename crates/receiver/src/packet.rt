@@ -2,7 +2,8 @@
 ghost use mathlib.Core.Path.{_≡_};
 ghost use Prim.Native.Nat.{_+_, _-_, _*_, _≤_, _<_};
 ghost use lib.ListN.{length};
-ghost use Rattle.receiver.specs.Packet.{readBy, arrivedAt, firstUnit, pieceFrom, Stored, stored, Room, Reach, collected, wholeGiven, wholesOf, giveOf, joinedOf, placeOf, Fits, receivedOf};
+ghost use Rattle.receiver.specs.Packet.{readBy, arrivedAt, firstUnit, pieceFrom, Stored, stored, Room, Reach, collected};
+ghost use Rattle.receiver.specs.Packet.{wholeGiven, wholesOf, giveOf, joinedOf, placeOf, Fits, receivedOf};
 use crate::answer::Given;
 use crate::answer::Memory;
 use crate::answer::Place;
@@ -268,7 +269,8 @@ pub fn receive(
     limit: usize,
 ) -> JoinedPacket
     requires { ⌜ Fits arrived limit (length (now collecting)) ⌝ }
-    ensures { λ r. ⌜ (r, now (collecting .exit)) ≡ receivedOf arrived channel queue (now (memory .entry)) (now (collecting .entry)) limit ⌝ }
+    ensures { λ r. ⌜ (r, now (collecting .exit))
+        ≡ receivedOf arrived channel queue (now (memory .entry)) (now (collecting .entry)) limit ⌝ }
 {
     match arrived {
         Arrived::Silent => JoinedPacket { channel, queue },

@@ -2,12 +2,26 @@
 use Prim.Native.Nat.{_*_, _<_, _≤_}
 use lib.ListN.{length}
 use Rattle.receiver.specs.Within.{part-reach, joined-reach}
-use Rattle.receiver.specs.Packet.{firstUnit, joinedOf}
+use Rattle.receiver.specs.Packet.{bytesAt, unitIn, stepOf, joinedOf}
 use Rattle.receiver.specs.Within.{first-inside, joined-room}
+use mathlib.Core.Path.{_≡_}
 use native.Mathlib.Omega.{arith}
 use borrow.Author.Needs.{needs}
 use Rattle.receiver.proofs.packet.join.Statement.{statement}
 use Rattle.receiver.proofs.packet.join.Tie as tie
+
+-- the packet's bytes, its data unit and its step are those of the definition
+bytes : (d : tie.After-part) → let a = d .before .before .before .before .before .args in
+    d .part .result .now ≡ bytesAt (a .l) (a .memory .now)
+bytes d = rw (d .part .ensures, d .before .distance .ensures)
+
+unit : (d : tie.After-first-unit) → let a = d .before .before .before .before .before .before .before .args in
+    d .first-unit .result ≡ unitIn (a .l) (a .memory .now)
+unit d = rw (d .first-unit .ensures, bytes (d .before .before))
+
+step : (d : tie.After-join) → let a = d .before .before .before .before .before .before .before .before .before .args in
+    d .join .result ≡ stepOf (a .ch) (a .l) (a .memory .now) (a .limit)
+step d = rw (d .join .ensures, d .before .piece .ensures, unit (d .before .before))
 
 distance-requires : tie.Need-distance-requires
 distance-requires c κs = search needs
@@ -33,26 +47,29 @@ mul-base c =
 
 collect-requires : tie.Need-collect-requires
 collect-requires c κs =
-    let f = c .before .before .before .before in
-    let b = f .before .before .part in
+    let j = c .before .before in
+    let f = j .before .before in
     let s = f .before .before .before .before .before .before .before in
     let a = s .args in
-    rw (c .before .before .join .ensures, c .before .before .before .piece .ensures, f .first-unit .ensures, b .ensures, f .before .before .before .distance .ensures)
+    rw (step j, unit f, bytes (f .before .before))
     (joined-room (a .ch) (a .l) (a .memory .now) (a .collecting .now) (a .limit) (s .pre))
 
 give-requires : tie.Need-give-requires
 give-requires c κs =
     let j = c .before .before .before .before .before in
     let f = j .before .before in
-    let b = f .before .before .part in
     let s = f .before .before .before .before .before .before .before in
     let a = s .args in
+    let p = a .memory .now in
     let k : a .l .start < 18446744073709551616 = omega (arith, s .good) in
     let n : a .limit < 18446744073709551616 = omega (arith, s .good) in
-    let i = first-inside (b .result .now) (a .l .packet .payload) in
-    let w : firstUnit (b .result .now) (a .l .packet .payload) .start ≤ length (b .result .now) = omega (arith, i .ordered, i .within) in
-    rw (j .join .ensures, j .before .piece .ensures, f .first-unit .ensures, b .ensures, f .before .before .before .distance .ensures)
-    (first-inside _ _ .ordered, part-reach _ (a .l .start) _ _ _ k (omega arith) (rw (b .ensures, f .before .before .before .distance .ensures) at w), joined-reach (a .ch) (a .l) (a .memory .now) (a .collecting .now) (a .limit) (s .pre) n)
+    let i = first-inside (bytesAt (a .l) p) (a .l .packet .payload) in
+    let w : unitIn (a .l) p .start ≤ length (bytesAt (a .l) p) = omega (arith, i .ordered, i .within) in
+    rw (step j, unit f) (
+      i .ordered,
+      part-reach _ (a .l .start) _ _ _ k (omega arith) w,
+      joined-reach (a .ch) (a .l) p (a .collecting .now) (a .limit) (s .pre) n,
+    )
 
 same-length : tie.Need-same-length
 same-length c = search needs
@@ -62,7 +79,7 @@ unfolding joinedOf
 returns c =
     let j = c .before .before .before .before .before .before .before in
     let f = j .before .before in
-    rw (c .before .give .ensures, c .before .before .before .before .collect .ensures, j .join .ensures, j .before .piece .ensures, f .first-unit .ensures, f .before .before .part .ensures, f .before .before .before .distance .ensures)
+    rw (c .before .give .ensures, c .before .before .before .before .collect .ensures, step j, unit f, bytes (f .before .before))
 
 pub join-spec : {M : Type 1} → statement M
 join-spec =

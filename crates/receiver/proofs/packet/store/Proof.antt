@@ -27,7 +27,8 @@ returns : tie.Need-returns
 returns c =
     let d = c .before .before .before .before .before .before .before in
     let u = d .args .u in
-    let h : u .end - u .start ≤ length (drop (u .start) (d .args .m .now)) = rw length-drop (omega (arith, d .pre .ordered, d .pre .within)) in
+    let h : u .end - u .start ≤ length (drop (u .start) (d .args .m .now)) =
+    rw length-drop (omega (arith, d .pre .ordered, d .pre .within)) in
     c .before .before .copy-at .ensures ∙ pasted-take _ _ _ _ h
 
 pub store-spec : {M : Type 1} → statement M

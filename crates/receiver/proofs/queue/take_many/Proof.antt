@@ -1,20 +1,17 @@
 -- Why `take_many` meets its contract: a unit, or none is left.
 use Rattle.receiver.specs.Within.{unit-inside, part-reach}
-use Rattle.mmtp.specs.Unit.{unitAt}
-use Rattle.wire.specs.Memory.{partOf}
+use Rattle.receiver.specs.Queue.{nextUnit}
 use lib.ListN.{length}
 use native.Mathlib.Omega.{arith}
-use Prim.Native.Nat.{_-_, _≤_, _<_}
+use Prim.Native.Nat.{_≤_, _<_}
 use mathlib.Core.Path.{_≡_, sym, _∙_}
 use borrow.Author.Needs.{needs}
 use Rattle.receiver.proofs.queue.take_many.Statement.{statement}
 use Rattle.receiver.proofs.queue.take_many.Tie as tie
 
 -- what stands at the next unit's place
-steps : (d : tie.After-unit-at) → let a = d .before .before .before .before .before .before .args .a in
-    let p = d .before .before .before .before .before .before .args .memory .now in
-    unitAt (partOf p (a .start) (a .end - a .start)) (a .at) (a .packet .payload .kind) (a .packet .payload .wide)
-    ≡ d .unit-at .result
+steps : (d : tie.After-unit-at) → let s = d .before .before .before .before .before .before .args in
+    nextUnit (s .a) (s .memory .now) ≡ d .unit-at .result
 steps d = rw (d .unit-at .ensures, d .before .part .ensures, d .before .before .distance .ensures)
 
 distance-requires : tie.Need-distance-requires
