@@ -22,3 +22,4 @@ pub mod Items
 pub mod Reading
 pub mod Arrivals
 pub mod Demand3
+pub mod Broadcast

@@ -11,3 +11,4 @@ pub mod PacketClaims
 pub mod Calls
 pub mod Frames
 pub mod Demand3
+pub mod Broadcast
