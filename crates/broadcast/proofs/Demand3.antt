@@ -184,14 +184,14 @@ enough cfg f fs p c xs e n h q = go (f .slots) n h q
 -- a receiver just started reads frames that fit, whatever is lost of them
 module _ (cfg : Config) (e : startOf cfg .refusal ≡ 0) (fs : List Frame) (w : FramesFit (cfg .stream) fs) (d : Damage) (p c : List ℕ)
     (at : At {A = ℕ × ℕ} cfg (started cfg p c) searching (λ k. fresh) blankLayout 120) where
-  shows-account : (xs : List Made) → Reads cfg fs d p c xs
+  pub shows-account : (xs : List Made) → Reads cfg fs d p c xs
       → (shownOf cfg fs d p c xs ≡ map strip (account cfg (arrivals (cfg .stream) d 0 fs))) × (refusedOf cfg fs d p c xs ≡ [])
   unfolding account
   shows-account xs h =
       let r = frames-read cfg d 0 fs blankLayout (started cfg p c) searching (λ k. fresh) xs at w h in
       (r .shown-all, r .refused-none)
 
-  made : (ys : List Made) × Reads cfg fs d p c ys
+  pub made : (ys : List Made) × Reads cfg fs d p c ys
   made = let r = frames-made cfg d 0 fs blankLayout (started cfg p c) searching (λ k. fresh) at w in (r .calls, r .follows)
 
 -- the theorem for frames that fit

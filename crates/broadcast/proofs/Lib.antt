@@ -23,3 +23,4 @@ pub mod Reading
 pub mod Arrivals
 pub mod Demand3
 pub mod Readings
+pub mod Broadcast

@@ -32,17 +32,17 @@ abbrev config : Config
 config = record { stream = 1; cid = 2; watch = record { ids = 17 ∷ 18 ∷ []; n = 2 }; limit = 100 }
 
 -- a TLV packet of 23 bytes, two of them signalling, by packet_id, psn, first payload byte (FI in its top two bits) and counter
-abbrev packet : ℕ → ℕ → ℕ → ℕ → List ℕ → List ℕ
+abbrev pub packet : ℕ → ℕ → ℕ → ℕ → List ℕ → List ℕ
 packet id psn fi counter bytes =
     (0x7f ∷ 3 ∷ 0 ∷ 19 ∷ 0x00 ∷ 0x20 ∷ 0x61 ∷ [])
     ++ (0 ∷ 2 ∷ 0 ∷ id ∷ 0 ∷ 0 ∷ 0 ∷ 0 ∷ 0 ∷ 0 ∷ 0 ∷ psn ∷ [])
     ++ (fi ∷ counter ∷ bytes)
 
 -- two pieces of packet_id 18, a whole unit of packet_id 17, and a null packet of two bytes
-abbrev first : List ℕ
+abbrev pub first : List ℕ
 first = packet 18 5 0x40 1 (0xa1 ∷ 0xa2 ∷ [])
 
-abbrev last : ℕ → List ℕ
+abbrev pub last : ℕ → List ℕ
 last psn = packet 18 psn 0xc0 0 (0xa3 ∷ 0xa4 ∷ [])
 
 abbrev alone : List ℕ
@@ -51,7 +51,7 @@ alone = packet 17 9 0 0 (0xb1 ∷ 0xb2 ∷ [])
 abbrev null : List ℕ
 null = 0x7f ∷ 0xff ∷ 0 ∷ 2 ∷ 0xff ∷ 0xff ∷ []
 
-abbrev slot : ℕ → ℕ → List ℕ → Slot
+abbrev pub slot : ℕ → ℕ → List ℕ → Slot
 slot top last bytes = record { top = top; last = last; bytes = bytes }
 
 -- the whole unit's first header byte ends slot 1, the rest of it begins slot 2
@@ -70,7 +70,7 @@ abbrev without : ℕ → ℕ → Bool
 without n k = not (eqb n k)
 
 -- the units
-abbrev content : ℕ → ℕ → List ℕ → Content
+abbrev pub content : ℕ → ℕ → List ℕ → Content
 content id psn bytes =
     record {
       info = record { «packet_id» = id; kind = 4; psn = record { 0 = psn }; mpu = 0; fields = noFields };
@@ -80,7 +80,7 @@ content id psn bytes =
 abbrev whole : Content
 whole = content 17 9 (0xb1 ∷ 0xb2 ∷ [])
 
-abbrev joined : Content
+abbrev pub joined : Content
 joined = content 18 5 (0xa1 ∷ 0xa2 ∷ 0xa3 ∷ 0xa4 ∷ [])
 
 -- a unit with the labels of each of its packets

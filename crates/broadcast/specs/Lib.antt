@@ -12,3 +12,4 @@ pub mod Calls
 pub mod Frames
 pub mod Demand3
 pub mod Readings
+pub mod Broadcast
