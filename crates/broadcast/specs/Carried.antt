@@ -40,7 +40,8 @@ module _ {A : Type 0} where
   abbrev pub intactUnits : (A → Bool) → List (Labelled (List A)) → List (Labelled (List A))
   intactUnits keep us = sift (λ u. all (λ ls. all keep ls) (u .labels)) us
 
-  -- "no watched packet_id has more than 4,294,967,295 packets"
+  -- "no watched packet_id has more than 4,294,967,295 packets"; where nothing is noted, the packets that count are all that are
+  -- complete and not silent
   abbrev pub Few : Config → List (A × Slot) → Type 0
   Few c xs = (k : ℕ) → count k (rowInputs c xs) ≤ 4294967295
 

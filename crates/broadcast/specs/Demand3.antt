@@ -62,7 +62,7 @@ pub record Concluded (cfg : Config) (fs : List Frame) (d : Damage) (p₁ c₁ p�
 
 abbrev pub Demand3 : Type 0
 Demand3 =
-    -- every accepted start, every list of frames, every damage, memories of the same lengths whatever they hold at first
+    -- every accepted start, every list of frames of 120 slots, every damage, memories of the same lengths whatever they hold at first
     (cfg : Config) → startOf cfg .refusal ≡ 0 → (fs : List Frame) → Whole fs → (d : Damage) (p₁ c₁ p₂ c₂ : List ℕ)
     → length p₁ ≡ length p₂ → length c₁ ≡ length c₂
     -- an undamaged reading, with refused calls added anywhere, none of its own refused, and no note
