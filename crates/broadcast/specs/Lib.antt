@@ -10,5 +10,7 @@ pub mod SlotClaims
 pub mod PacketClaims
 pub mod Calls
 pub mod Frames
+pub mod Machines
+pub mod Bound
 pub mod Demand3
 pub mod Readings
