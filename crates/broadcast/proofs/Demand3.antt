@@ -29,7 +29,7 @@ use Rattle.broadcast.specs.Calls.{Machine, Made, Todo, call, drain, fram
 use Rattle.broadcast.specs.Frames.{Frame, Whole, Damage, none, reading, slotsTodo, ownSlots, arrivals}
 use Rattle.broadcast.specs.Demand3.{started, Reads, shownOf, refusedOf, NoNote, unitsOf, slotsOf, kept, Damaged, Concluded, Demand3}
 use Rattle.broadcast.proofs.AccountLoss.{account-units, account-loss}
-use Rattle.broadcast.proofs.Items.{At}
+use Rattle.broadcast.specs.Machines.{At}
 use Rattle.broadcast.proofs.Reading.{FramesFit, frames-read, frames-made, frames-fit, nothing-left, nil-left, nil-right, unrefused, slot-refusal}
 use Rattle.broadcast.proofs.Script.{call-follows}
 use Rattle.broadcast.proofs.Arrivals.{frames-intact, frames-filled, damage-account}

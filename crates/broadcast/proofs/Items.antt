@@ -24,6 +24,7 @@ use Rattle.broadcast.specs.Account.{events, linesAfter}
 use Rattle.broadcast.specs.Drains.{Shown, strip, Drains, Tracks}
 use Rattle.broadcast.specs.Pending.{cursorPending, cursorLeaves, queuePending}
 use Rattle.broadcast.specs.SlotClaims.{Short, Reads}
+use Rattle.broadcast.specs.Machines.{At}
 use Rattle.broadcast.specs.PacketClaims.{QueueEmpty, QueueGood}
 use Rattle.broadcast.proofs.SlotReads.{own-slot, lost-slot as lost-slot-reads, lost-frame as lost-frame-reads}
 use Rattle.broadcast.specs.Frames.{slotAt}
@@ -66,12 +67,6 @@ module _ {A : Type 0} (cfg : Config) where
         leaves = d .slot .leaves;
         ends = refl;
       })
-
--- between the calls for one slot and the next: slot s of a frame with layout l is due
-pub record At {A : Type 0} (cfg : Config) (m : Machine) (tl : Slot-state A) (f : ℕ → Line (List A)) (l : Layout) (s : ℕ) : Type 0 where
-  pub tracks : Tracks cfg (m .state) (m .packet) (m .collecting) tl f
-  pub short : Short tl
-  pub frame : m .state .frame ≡ record { layout = l; at = s }
 
 -- a call is accepted, and next after it shows es
 pub record Item {A : Type 0} (cfg : Config) (m : Machine) (k : Call) (tl : Slot-state A) (f : ℕ → Line (List A)) (es : List Shown)

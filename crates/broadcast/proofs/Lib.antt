@@ -19,6 +19,7 @@ pub mod PacketReads
 pub mod EventCount
 pub mod Draining
 pub mod Items
+pub mod Bound
 pub mod Reading
 pub mod Arrivals
 pub mod Demand3

@@ -24,7 +24,8 @@ use Rattle.broadcast.specs.Drains.{Shown, strip}
 use Rattle.broadcast.specs.Calls.{Machine, Call, frame, slot, lost-slot, lost-frame, accepted, refused, numbered, Did, did, Todo, call, drain, Made, own, shows, added, Follows, allShown, refusals, noteShown, refusalIn, Answer}
 use Rattle.broadcast.specs.Frames.{Frame, Whole, Damage, none, slotCall, slotsTodo, frameTodo, reading, slotAt, ifOwn, arriving, slotsArrive, layoutIn, frameArrives, arrivals}
 use Rattle.broadcast.proofs.Script.{Left, Makes, call-follows, drain-follows, call-made, drain-made}
-use Rattle.broadcast.proofs.Items.{At, Item, due, own-item, lost-item, lost-frame-item, other-item, other-lost-item}
+use Rattle.broadcast.specs.Machines.{At}
+use Rattle.broadcast.proofs.Items.{Item, due, own-item, lost-item, lost-frame-item, other-item, other-lost-item}
 
 -- one list of slot events behind another
 module _ {A : Type 0} (cfg : Config) where

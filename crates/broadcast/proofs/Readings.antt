@@ -31,7 +31,8 @@ use Rattle.broadcast.specs.Readings.{Begun, ReadingTheorem}
 use Rattle.broadcast.proofs.Refusals.{did-refused}
 use Rattle.broadcast.proofs.Script.{call-follows, not-done}
 use Rattle.broadcast.proofs.Demand3.{start-accepted, start-at, frame-config, slot-due, long-enough, slot-tells}
-use Rattle.broadcast.proofs.Items.{At, due, lost-frame-item}
+use Rattle.broadcast.specs.Machines.{At}
+use Rattle.broadcast.proofs.Items.{due, lost-frame-item}
 use Rattle.broadcast.proofs.Reading.{Went, slot-step, went-on, nothing-left, nil-left, nil-right, unrefused, slot-refusal, frame-refusal, slot-accepted, frame-accepted, frame-did, frame-at, framed, call-left, shown-on, Step}
 
 module _ (cfg : Config) where

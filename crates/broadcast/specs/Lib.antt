@@ -10,6 +10,8 @@ pub mod SlotClaims
 pub mod PacketClaims
 pub mod Calls
 pub mod Frames
+pub mod Machines
+pub mod Bound
 pub mod Demand3
 pub mod Readings
 pub mod Broadcast
