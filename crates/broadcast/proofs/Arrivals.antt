@@ -1,7 +1,7 @@
 -- What arrives of frames beside their own live slots: undamaged, all of them; damaged, those that are not lost.
 use Prim.Native.Nat.{ℕ, zero, suc, _+_, _<_, _≤_}
 use mathlib.Core.Path.{_≡_, refl, sym, ap, _∙_, subst}
-use mathlib.Core.Bool.{Bool, true, false, cond, _||_, not, true≢false}
+use mathlib.Core.Bool.{Bool, true, false, cond, not}
 use mathlib.Core.List.{List, [], _∷_, _++_, append-assoc}
 use native.Mathlib.Omega.{arith}
 use lib.ListN.{length, getD, replicate}
@@ -10,13 +10,12 @@ use Rattle.tmcc.specs.Count.{countBelow}
 use Rattle.tmcc.specs.Block.{decodeOf, ownStream}
 use Rattle.tmcc.specs.Stream.{ownSlot}
 use Rattle.tmcc.specs.Mode.{slotLength}
-use Rattle.tmcc.specs.Layout.{layoutOf}
 use Rattle.tmcc.proofs.Laws.{accepted, accepted-layout, layout-own, layout-length, own-live}
 use Rattle.tlv.specs.Run.{Slot, Arrival, lost, given, intact, damaged, arrival}
 use Rattle.tlv.specs.Claims.{Filled}
 use Rattle.reassembly.specs.declared.config.Config.{Config}
 use Rattle.broadcast.specs.Account.{account}
-use Rattle.broadcast.specs.Frames.{Frame, Damage, none, lost as is-lost, slotAt, ifOwn, slotsFrom, layoutIn, ownSlots, arriving, slotsArrive, frameArrives, arrivals}
+use Rattle.broadcast.specs.Frames.{Frame, Damage, none, slotAt, ifOwn, slotsFrom, layoutIn, ownSlots, arriving, slotsArrive, frameArrives, arrivals}
 use Rattle.broadcast.specs.Demand3.{kept}
 use Rattle.broadcast.proofs.AccountLoss.{lost-many}
 use Rattle.broadcast.proofs.Items.{right-length}

@@ -44,7 +44,7 @@ use Rattle.broadcast.specs.Demand3.{started, Reads, shownOf, refusedOf, 
 use Rattle.broadcast.specs.Example.{slot, first, last, joined}
 use Rattle.broadcast.specs.Broadcast.{config, block, layout, opening, closing, slotsOver, frameOver, alone, frames}
 use Rattle.broadcast.specs.Broadcast.{Memories, Assumed, Met, whole, Shows, slotLost, frameLost, BroadcastClaims}
-use Rattle.broadcast.proofs.Items.{At}
+use Rattle.broadcast.specs.Machines.{At}
 use Rattle.broadcast.proofs.Reading.{SlotsFit, FramesFit}
 use Rattle.broadcast.proofs.Arrivals.{damage-account}
 use Rattle.broadcast.proofs.Demand3.{start-at, shows-account, made, demand-3}

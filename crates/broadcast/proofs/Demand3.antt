@@ -1,7 +1,7 @@
 -- Demand 3 holds.
-use Prim.Native.Nat.{ℕ, zero, suc, _+_, _*_, _<_, _≤_}
+use Prim.Native.Nat.{ℕ, _*_, _<_, _≤_}
 use mathlib.Core.Path.{_≡_, refl, sym, ap, _∙_, subst}
-use mathlib.Core.Bool.{Bool, true, false, cond, _||_, true≢false}
+use mathlib.Core.Bool.{Bool, true, false, cond, _||_}
 use mathlib.Core.List.{List, [], _∷_, _++_, map}
 use native.Mathlib.Omega.{arith}
 use lib.Dec.{eqb, ltb, leb}
@@ -15,18 +15,18 @@ use Rattle.reassembly.specs.Sent.{sent, sentAfter}
 use Rattle.reassembly.specs.declared.config.Config.{Config}
 use Rattle.reassembly.specs.declared.channel.Channel.{Channel}
 use Rattle.reassembly.specs.Channel.{unheard}
-use Rattle.reassembly.specs.Run.{Event as Account-event, note as account-note, unit as account-unit, fresh, Clean, units, Labelled}
+use Rattle.reassembly.specs.Run.{Event as Account-event, note as account-note, unit as account-unit, fresh, Clean, units}
 use Rattle.receiver.specs.declared.state.State.{State}
 use Rattle.tmcc.specs.Block.{decodeOf}
 use Rattle.receiver.specs.State.{accepted as acceptedAs, refused as refusedWith, withFrame}
 use Rattle.receiver.specs.Frame.{frameBusy, frameOf}
 use Rattle.receiver.specs.Slot.{refusalOf as slotRefusal, shortBy, wrongLength, slotOf, slotTaken, dueLength, dueOwn, duePointers}
 use Rattle.receiver.specs.Start.{refusalOf as startRefusal, startOf, freshState, blankConfig, twice}
-use Rattle.broadcast.specs.Account.{account, events}
+use Rattle.broadcast.specs.Account.{account}
 use Rattle.broadcast.specs.Carried.{inputs, rowInputs, carriedUnits, intactUnits, contents, Few}
-use Rattle.broadcast.specs.Drains.{Shown, note, unit, strip, LineIs}
-use Rattle.broadcast.specs.Calls.{Machine, Made, Todo, call, drain, frame, slot, did, Follows, refusals, numbered, refusalIn}
-use Rattle.broadcast.specs.Frames.{Frame, Whole, Damage, none, reading, slotsTodo, ownSlots, arrivals}
+use Rattle.broadcast.specs.Drains.{unit, strip, LineIs}
+use Rattle.broadcast.specs.Calls.{Machine, Made, Todo, call, drain, frame, slot, did, Follows, refusals, refusalIn}
+use Rattle.broadcast.specs.Frames.{Frame, Damage, none, reading, slotsTodo, ownSlots, arrivals}
 use Rattle.broadcast.specs.Demand3.{started, Reads, shownOf, refusedOf, NoNote, unitsOf, slotsOf, kept, Damaged, Concluded, Demand3}
 use Rattle.broadcast.proofs.AccountLoss.{account-units, account-loss}
 use Rattle.broadcast.specs.Machines.{At}

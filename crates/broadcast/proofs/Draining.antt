@@ -1,7 +1,7 @@
 -- The calls of next after a slot give what the account gives, and leave what it leaves.
-use Prim.Native.Nat.{ℕ, zero, suc, _+_, _-_, _*_, _<_, _≤_}
+use Prim.Native.Nat.{ℕ, zero, suc, _-_, _*_, _<_, _≤_}
 use mathlib.Core.Path.{_≡_, refl, sym, ap, _∙_, subst}
-use mathlib.Core.Bool.{Bool, true, false, cond}
+use mathlib.Core.Bool.{true}
 use mathlib.Core.List.{List, [], _∷_, _++_, map, map-append}
 use native.Mathlib.Omega.{arith}
 use lib.ListN.{length}
@@ -14,18 +14,16 @@ use Rattle.receiver.specs.declared.answer.Event.{Event}
 use Rattle.receiver.specs.declared.answer.Event.the-variants.{Nothing, Note, Unit, Refused}
 use Rattle.receiver.specs.declared.next.Found.{Found}
 use Rattle.receiver.specs.declared.next.Found.the-variants.{Event as AnEvent, Packet, Tail, Done}
-use Rattle.receiver.specs.declared.next.Advanced.{Advanced}
-use Rattle.receiver.specs.declared.queue.Taken.{Taken}
 use Rattle.receiver.specs.declared.state.Cursor.{Cursor}
 use Rattle.receiver.specs.declared.state.Frame.{Frame}
 use Rattle.receiver.specs.declared.state.Queue.{Queue}
 use Rattle.receiver.specs.declared.state.State.{State}
-use Rattle.receiver.specs.State.{noted, holding, empty, withOwed, withSlot, withQueue}
+use Rattle.receiver.specs.State.{holding, empty, withSlot, withQueue}
 use Rattle.receiver.specs.Slot.{shortBy}
 use Rattle.receiver.specs.Queue.{takenOf}
 use Rattle.receiver.specs.Next.{Out, onwards, readOn, readAll, nextOf, advancedOf, turnBy, turnOf, past, packetOf, left}
 use Rattle.broadcast.specs.Account.{Read, readOf, afterRead, events, linesAfter}
-use Rattle.broadcast.specs.Drains.{Shown, note, unit, strip, shown, Drains, stops, notes, units, HeldIs, Tracks}
+use Rattle.broadcast.specs.Drains.{Shown, note, strip, shown, Drains, stops, notes, units, HeldIs, Tracks}
 use Rattle.broadcast.specs.Pending.{bare, Found as Waiting, slot-notes, a-packet, cursorPending, cursorLeaves, queuePending}
 use Rattle.broadcast.specs.SlotClaims.{CursorGood, Advances}
 use Rattle.broadcast.specs.PacketClaims.{QueueEmpty, QueueGood, LinesAre, Takes}

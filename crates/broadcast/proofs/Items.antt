@@ -1,8 +1,8 @@
 -- Each call of a reading: it is accepted, and with the calls of next after it shows what the account gives.
-use Prim.Native.Nat.{ℕ, suc, _+_, _*_, _<_, _≤_}
+use Prim.Native.Nat.{ℕ, suc, _<_, _≤_}
 use mathlib.Core.Path.{_≡_, refl, sym, ap, _∙_, subst}
-use mathlib.Core.Bool.{Bool, true, false, cond, _||_, not, true≢false, false≢true}
-use mathlib.Core.List.{List, [], _∷_, _++_, map}
+use mathlib.Core.Bool.{Bool, true, false, _||_, not, true≢false, false≢true}
+use mathlib.Core.List.{List, [], map}
 use native.Mathlib.Omega.{arith}
 use lib.ListN.{length, getD}
 use borrow.Author.Tests.{lt-leb, le-ltb, ltb-false, eqb-true}
@@ -14,7 +14,6 @@ use Rattle.tlv.specs.Run.{Stepped, State as Slot-state, step, given, lost}
 use Rattle.reassembly.specs.declared.config.Config.{Config}
 use Rattle.reassembly.specs.Run.{Line}
 use Rattle.receiver.specs.declared.state.Frame.{Frame}
-use Rattle.receiver.specs.declared.state.Give.{Give}
 use Rattle.receiver.specs.declared.state.Queue.{Queue}
 use Rattle.receiver.specs.declared.state.State.{State}
 use Rattle.receiver.specs.State.{accepted as acceptedAs}
@@ -29,7 +28,7 @@ use Rattle.broadcast.specs.PacketClaims.{QueueEmpty, QueueGood}
 use Rattle.broadcast.proofs.SlotReads.{own-slot, lost-slot as lost-slot-reads, lost-frame as lost-frame-reads}
 use Rattle.broadcast.specs.Frames.{slotAt}
 use Rattle.broadcast.specs.Calls.{Machine, Call, frame, lost-frame, slot, lost-slot, next, accepted, Did, did}
-use Rattle.broadcast.proofs.Draining.{Owes, Settles, settle}
+use Rattle.broadcast.proofs.Draining.{Settles, settle}
 
 -- an empty queue has nothing to give
 empty-pending : (q : Queue) (p c : List ℕ) → QueueEmpty q → queuePending q p c ≡ []

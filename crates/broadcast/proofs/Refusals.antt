@@ -1,11 +1,10 @@
 -- A refused call leaves the state and both memories as they were.
 use Prim.Native.Nat.{ℕ, zero, suc, _-_}
 use mathlib.Core.Path.{_≡_, refl, ap}
-use mathlib.Core.Bool.{Bool, true, false, cond, _||_}
+use mathlib.Core.Bool.{Bool, true, false, cond}
 use mathlib.Core.List.{List}
 use lib.ListN.{length, drop}
 use lib.Dec.{eqb}
-use Rattle.tmcc.specs.declared.block.Decoded.{Decoded}
 use Rattle.tmcc.specs.Block.{decodeOf}
 use Rattle.receiver.specs.declared.answer.Called.{Called}
 use Rattle.receiver.specs.declared.answer.Event.{Event}
@@ -18,13 +17,11 @@ use Rattle.receiver.specs.declared.queue.Taken.{Taken}
 use Rattle.receiver.specs.declared.next.Found.{Found}
 use Rattle.receiver.specs.declared.next.Found.the-variants.{Event as AnEvent, Packet, Tail, Done}
 use Rattle.receiver.specs.declared.next.Advanced.{Advanced}
-use Rattle.receiver.specs.declared.next.Turn.{Turn}
 use Rattle.receiver.specs.declared.state.Cursor.{Cursor}
 use Rattle.mmtp.specs.declared.unit.Step.{Step}
 use Rattle.mmtp.specs.declared.unit.Step.the-variants.{Unit as UnitAt, Malformed, End}
-use Rattle.receiver.specs.State.{refused as refusedWith, accepted as acceptedAs, withFrame, withQueue, withSlot}
-use Rattle.receiver.specs.Frame.{frameBusy, frameOf, lossOf, lostFrameOf}
-use Rattle.receiver.specs.Slot.{Out, refusalOf, wrongLength, dueLength, dueOwn, duePointers, slotTaken, slotOf, lossTaken, lostSlotOf, shortBy}
+use Rattle.receiver.specs.Frame.{frameBusy, frameOf, lostFrameOf}
+use Rattle.receiver.specs.Slot.{Out, refusalOf, wrongLength, dueLength, dueOwn, duePointers, slotTaken, slotOf, lostSlotOf, shortBy}
 use Rattle.wire.specs.Memory.{partOf}
 use Rattle.mmtp.specs.Unit.{unitAt}
 use Rattle.receiver.specs.Queue.{giveBy, manyBy, takenOf}
@@ -34,7 +31,7 @@ use Rattle.tlv.specs.declared.packet.Next.{Next as TlvNext}
 use Rattle.tlv.specs.declared.packet.Next.the-variants.{Packet as PacketTo, Tail as TailAt}
 use Rattle.tlv.specs.Packet.{packetAt, tooLong}
 use Rattle.receiver.specs.Next.{Out as NextOut, onwards, readOn, readAll, nextOf, tailAdvanced, advancedBy, slotAdvanced, advancedOf, turnBy, turnOf, past, left}
-use Rattle.broadcast.specs.Calls.{Machine, Call, frame, lost-frame, slot, lost-slot, next, Did, did, numbered, eventAnswer, IsRefused, withState}
+use Rattle.broadcast.specs.Calls.{Machine, Call, frame, lost-frame, slot, lost-slot, next, did, numbered, eventAnswer, IsRefused, withState}
 
 -- a state that comes back beside a refusal is the one given
 abbrev Keeps : State → Called → Type 0
