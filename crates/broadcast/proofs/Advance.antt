@@ -12,15 +12,14 @@ use borrow.Author.Tests.{eqb-true}
 use Rattle.wire.specs.Memory.{partOf}
 use Rattle.tlv.specs.Packet.{total, complete, tooLong, cut, packetAt, inFront}
 use Rattle.tlv.specs.Cuts.{complete-fits, cut-end, cut-more}
-use Rattle.receiver.specs.declared.next.Advanced.{Advanced}
-use Rattle.receiver.specs.declared.answer.Event.the-variants.{Note}
-use Rattle.receiver.specs.declared.next.Found.the-variants.{Event, Packet, Tail, Done}
-use Rattle.receiver.specs.declared.state.Cursor.{Cursor}
+use Rattle.delivery.specs.declared.cursor.Advanced.{Advanced}
+use Rattle.delivery.specs.declared.event.Event.the-variants.{Note}
+use Rattle.delivery.specs.declared.cursor.Found.the-variants.{Event, Packet, Tail, Done}
+use Rattle.delivery.specs.declared.cursor.Cursor.{Cursor}
 use Rattle.receiver.specs.declared.state.Held.{Held}
-use Rattle.receiver.specs.State.{holding, noted}
-use Rattle.receiver.specs.Next.{tailAdvanced, slotAdvanced, advancedOf, left}
-use Rattle.broadcast.specs.Pending.{Found, slot-notes, a-packet, some-if}
-use Rattle.broadcast.specs.Pending.{slotPending, heldAfter, cursorPending, cursorLeaves}
+use Rattle.receiver.specs.State.{holding}
+use Rattle.delivery.specs.Cursor.{noted, tailAdvanced, slotAdvanced, advancedOf, left}
+use Rattle.broadcast.specs.Pending.{Found, slot-notes, a-packet, some-if, slotPending, heldAfter, cursorPending, cursorLeaves}
 use Rattle.broadcast.specs.SlotClaims.{CursorGood, Advances, Advance}
 use Rattle.broadcast.proofs.SlotCut.{cutGives, cutLeaves, leaves-cut}
 use Rattle.broadcast.proofs.SlotMemory.{length-part-end, part-first}

@@ -24,7 +24,7 @@ use Rattle.receiver.specs.Slot.{refusalOf as slotRefusal, shortBy, wrongLength,
 use Rattle.receiver.specs.Start.{refusalOf as startRefusal, startOf, freshState, blankConfig, twice}
 use Rattle.broadcast.specs.Account.{account}
 use Rattle.broadcast.specs.Carried.{inputs, rowInputs, carriedUnits, intactUnits, contents, Few}
-use Rattle.broadcast.specs.Drains.{unit, strip, LineIs}
+use Rattle.broadcast.specs.Drains.{strip, LineIs}
 use Rattle.broadcast.specs.Calls.{Machine, Made, Todo, call, drain, frame, slot, did, Follows, refusals, refusalIn}
 use Rattle.broadcast.specs.Frames.{Frame, Damage, none, reading, slotsTodo, ownSlots, arrivals}
 use Rattle.broadcast.specs.Demand3.{started, Reads, shownOf, refusedOf, NoNote, unitsOf, slotsOf, kept, Damaged, Concluded, Demand3}

@@ -10,18 +10,19 @@ use Rattle.wire.specs.Memory.{partOf}
 use Rattle.tlv.specs.Run.{Labelled, Event as Slot-event, note as slot-note, packet as slot-packet, State as Slot-state}
 use Rattle.reassembly.specs.declared.config.Config.{Config}
 use Rattle.reassembly.specs.Run.{Line, Event as Account-event}
-use Rattle.receiver.specs.declared.answer.Event.{Event}
-use Rattle.receiver.specs.declared.answer.Event.the-variants.{Nothing, Note, Unit, Refused}
-use Rattle.receiver.specs.declared.next.Found.{Found}
-use Rattle.receiver.specs.declared.next.Found.the-variants.{Event as AnEvent, Packet, Tail, Done}
-use Rattle.receiver.specs.declared.state.Cursor.{Cursor}
+use Rattle.delivery.specs.declared.event.Event.{Event}
+use Rattle.delivery.specs.declared.event.Event.the-variants.{Nothing, Note, Unit, Refused}
+use Rattle.delivery.specs.declared.cursor.Found.{Found}
+use Rattle.delivery.specs.declared.cursor.Found.the-variants.{Event as AnEvent, Packet, Tail, Done}
+use Rattle.delivery.specs.declared.cursor.Cursor.{Cursor}
 use Rattle.receiver.specs.declared.state.Frame.{Frame}
-use Rattle.receiver.specs.declared.state.Queue.{Queue}
+use Rattle.delivery.specs.declared.queue.Queue.{Queue}
 use Rattle.receiver.specs.declared.state.State.{State}
-use Rattle.receiver.specs.State.{holding, empty, withSlot, withQueue}
+use Rattle.receiver.specs.State.{holding, withSlot, withQueue}
+use Rattle.delivery.specs.Queue.{takenOf}
 use Rattle.receiver.specs.Slot.{shortBy}
-use Rattle.receiver.specs.Queue.{takenOf}
-use Rattle.receiver.specs.Next.{Out, onwards, readOn, readAll, nextOf, advancedOf, turnBy, turnOf, past, packetOf, left}
+use Rattle.receiver.specs.Next.{Out, onwards, readOn, readAll, nextOf, past, packetOf}
+use Rattle.delivery.specs.Cursor.{advancedOf, turnBy, turnOf, left}
 use Rattle.broadcast.specs.Account.{Read, readOf, afterRead, events, linesAfter}
 use Rattle.broadcast.specs.Drains.{Shown, note, strip, shown, Drains, stops, notes, units, HeldIs, Tracks}
 use Rattle.broadcast.specs.Pending.{bare, Found as Waiting, slot-notes, a-packet, cursorPending, cursorLeaves, queuePending}

@@ -14,7 +14,7 @@ use Rattle.tlv.specs.Run.{Stepped, State as Slot-state, step, given, lost}
 use Rattle.reassembly.specs.declared.config.Config.{Config}
 use Rattle.reassembly.specs.Run.{Line}
 use Rattle.receiver.specs.declared.state.Frame.{Frame}
-use Rattle.receiver.specs.declared.state.Queue.{Queue}
+use Rattle.delivery.specs.declared.queue.Queue.{Queue}
 use Rattle.receiver.specs.declared.state.State.{State}
 use Rattle.receiver.specs.State.{accepted as acceptedAs}
 use Rattle.receiver.specs.Frame.{frameBusy, lossOf, lostFrameOf}
@@ -27,7 +27,7 @@ use Rattle.broadcast.specs.Machines.{At}
 use Rattle.broadcast.specs.PacketClaims.{QueueEmpty, QueueGood}
 use Rattle.broadcast.proofs.SlotReads.{own-slot, lost-slot as lost-slot-reads, lost-frame as lost-frame-reads}
 use Rattle.broadcast.specs.Frames.{slotAt}
-use Rattle.broadcast.specs.Calls.{Machine, Call, frame, lost-frame, slot, lost-slot, next, accepted, Did, did}
+use Rattle.broadcast.specs.Calls.{Machine, Call, frame, lost-frame, slot, lost-slot, accepted, Did, did}
 use Rattle.broadcast.proofs.Draining.{Settles, settle}
 
 -- an empty queue has nothing to give

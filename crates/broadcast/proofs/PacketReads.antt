@@ -22,15 +22,15 @@ use Rattle.reassembly.specs.declared.join.Joined.{Joined}
 use Rattle.reassembly.specs.Channel.{unheard}
 use Rattle.reassembly.specs.Join.{notesOf}
 use Rattle.reassembly.specs.Run.{Input, Event, note as account-note, Line, lineAfter, eventsOf, step, withLine}
-use Rattle.receiver.specs.declared.packet.Located.{Located}
-use Rattle.receiver.specs.declared.packet.Arrived.the-variants.{Good}
-use Rattle.receiver.specs.declared.state.Queue.{Queue}
+use Rattle.delivery.specs.declared.packet.Located.{Located}
+use Rattle.delivery.specs.declared.packet.Arrived.the-variants.{Good}
+use Rattle.delivery.specs.declared.queue.Queue.{Queue}
 use Rattle.receiver.specs.declared.state.State.{State}
-use Rattle.receiver.specs.State.{empty, withQueue, withChannels}
-use Rattle.receiver.specs.Packet.{bytesAt, unitIn, baseOf, stepOf, queueOf, joinedOf, arrivedAt, readBy, flowBy}
+use Rattle.delivery.specs.Queue.{empty}
+use Rattle.receiver.specs.State.{withQueue, withChannels}
+use Rattle.delivery.specs.Packet.{bytesAt, unitIn, baseOf, stepOf, queueOf, joinedOf, arrivedAt, readBy, flowBy}
 use Rattle.receiver.specs.Next.{arrivedBy, packetOf}
-use Rattle.broadcast.specs.Account.{After, input, inputFrom, readOf, afterRead}
-use Rattle.broadcast.specs.Account.{readBy as accountRead, flowBy as accountFlow}
+use Rattle.broadcast.specs.Account.{After, input, inputFrom, readOf, afterRead, readBy as accountRead, flowBy as accountFlow}
 use Rattle.broadcast.specs.Drains.{Shown, note, strip, LineIs}
 use Rattle.broadcast.specs.Pending.{queuePending}
 use Rattle.broadcast.specs.PacketClaims.{QueueEmpty, QueueGood, LinesAre, Stands, PacketDoes}

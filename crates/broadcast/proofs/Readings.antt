@@ -15,10 +15,11 @@ use Rattle.tlv.specs.Run.{Arrival, State as Slot-state, lost, step, run, stateA
 use Rattle.reassembly.specs.declared.config.Config.{Config}
 use Rattle.reassembly.specs.Run.{Line, fresh}
 use Rattle.receiver.specs.declared.state.Frame.{Frame as ReceiverFrame}
-use Rattle.receiver.specs.declared.answer.Event.the-variants.{Nothing, Refused}
+use Rattle.delivery.specs.declared.event.Event.the-variants.{Nothing, Refused}
 use Rattle.receiver.specs.declared.state.State.{State}
 use Rattle.receiver.specs.State.{accepted as acceptedAs, refused as refusedWith}
-use Rattle.receiver.specs.Next.{answered, readOn, readAll, left, nextOf}
+use Rattle.receiver.specs.Next.{answered, readOn, readAll, nextOf}
+use Rattle.delivery.specs.Cursor.{left}
 use Rattle.receiver.specs.Slot.{wrongLength, slotOf, lostSlotOf, lossTaken, dueOwn, shortBy, refusalOf as slotRefusal}
 use Rattle.receiver.specs.Frame.{frameBusy, frameOf, lossOf, lostFrameOf}
 use Rattle.broadcast.specs.Account.{account, events, linesAfter}

@@ -7,30 +7,31 @@ use lib.ListN.{length, drop}
 use lib.Dec.{eqb}
 use Rattle.tmcc.specs.Block.{decodeOf}
 use Rattle.receiver.specs.declared.answer.Called.{Called}
-use Rattle.receiver.specs.declared.answer.Event.{Event}
-use Rattle.receiver.specs.declared.answer.Event.the-variants.{Nothing, Note, Unit, Refused}
+use Rattle.delivery.specs.declared.event.Event.{Event}
+use Rattle.delivery.specs.declared.event.Event.the-variants.{Nothing, Note, Unit, Refused}
 use Rattle.receiver.specs.declared.state.State.{State}
-use Rattle.receiver.specs.declared.state.Give.{Give}
-use Rattle.receiver.specs.declared.state.Give.the-variants.{Nothing as NoUnit, One, Many}
-use Rattle.receiver.specs.declared.state.Queue.{Queue}
-use Rattle.receiver.specs.declared.queue.Taken.{Taken}
-use Rattle.receiver.specs.declared.next.Found.{Found}
-use Rattle.receiver.specs.declared.next.Found.the-variants.{Event as AnEvent, Packet, Tail, Done}
-use Rattle.receiver.specs.declared.next.Advanced.{Advanced}
-use Rattle.receiver.specs.declared.state.Cursor.{Cursor}
+use Rattle.delivery.specs.declared.queue.Give.{Give}
+use Rattle.delivery.specs.declared.queue.Give.the-variants.{Nothing as NoUnit, One, Many}
+use Rattle.delivery.specs.declared.queue.Queue.{Queue}
+use Rattle.delivery.specs.declared.queue.Taken.{Taken}
+use Rattle.delivery.specs.declared.cursor.Found.{Found}
+use Rattle.delivery.specs.declared.cursor.Found.the-variants.{Event as AnEvent, Packet, Tail, Done}
+use Rattle.delivery.specs.declared.cursor.Advanced.{Advanced}
+use Rattle.delivery.specs.declared.cursor.Cursor.{Cursor}
 use Rattle.mmtp.specs.declared.unit.Step.{Step}
 use Rattle.mmtp.specs.declared.unit.Step.the-variants.{Unit as UnitAt, Malformed, End}
 use Rattle.receiver.specs.Frame.{frameBusy, frameOf, lostFrameOf}
 use Rattle.receiver.specs.Slot.{Out, refusalOf, wrongLength, dueLength, dueOwn, duePointers, slotTaken, slotOf, lostSlotOf, shortBy}
 use Rattle.wire.specs.Memory.{partOf}
 use Rattle.mmtp.specs.Unit.{unitAt}
-use Rattle.receiver.specs.Queue.{giveBy, manyBy, takenOf}
+use Rattle.delivery.specs.Queue.{giveBy, manyBy, takenOf}
 use Rattle.tmcc.specs.declared.layout.Pointers.{Pointers}
-use Rattle.receiver.specs.declared.state.Aggregate.{Aggregate}
+use Rattle.delivery.specs.declared.queue.Aggregate.{Aggregate}
 use Rattle.tlv.specs.declared.packet.Next.{Next as TlvNext}
 use Rattle.tlv.specs.declared.packet.Next.the-variants.{Packet as PacketTo, Tail as TailAt}
 use Rattle.tlv.specs.Packet.{packetAt, tooLong}
-use Rattle.receiver.specs.Next.{Out as NextOut, onwards, readOn, readAll, nextOf, tailAdvanced, advancedBy, slotAdvanced, advancedOf, turnBy, turnOf, past, left}
+use Rattle.receiver.specs.Next.{Out as NextOut, onwards, readOn, readAll, nextOf, past}
+use Rattle.delivery.specs.Cursor.{tailAdvanced, advancedBy, slotAdvanced, advancedOf, turnBy, turnOf, left}
 use Rattle.broadcast.specs.Calls.{Machine, Call, frame, lost-frame, slot, lost-slot, next, did, numbered, eventAnswer, IsRefused, withState}
 
 -- a state that comes back beside a refusal is the one given

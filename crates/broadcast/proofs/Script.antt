@@ -3,40 +3,13 @@ use Prim.Native.Nat.{ℕ}
 use mathlib.Core.Path.{_≡_, refl, sym, ap, _∙_, subst}
 use mathlib.Core.List.{List, [], _∷_, _++_}
 use native.Mathlib.Omega.{arith}
-use Rattle.receiver.specs.declared.answer.Event.the-variants.{Nothing, Note, Unit}
-use Rattle.receiver.specs.declared.answer.Given.{Given}
+use Rattle.delivery.specs.declared.event.Event.the-variants.{Nothing, Note, Unit}
+use Rattle.delivery.specs.declared.event.Given.{Given}
 use Rattle.receiver.specs.declared.answer.Answer.{Answer as NextAnswer}
 use Rattle.receiver.specs.declared.state.State.{State}
 use Rattle.receiver.specs.Next.{nextOf}
 use Rattle.broadcast.specs.Drains.{Shown, note, shown, Drains, stops, notes, units}
-use Rattle.broadcast.specs.Calls.{
-  Machine,
-  Call,
-  next,
-  Answer,
-  nothing,
-  noted,
-  given,
-  accepted,
-  Did,
-  did,
-  Made,
-  own,
-  shows,
-  added,
-  Todo,
-  call,
-  drain,
-  show,
-  drainAfter,
-  eventAnswer,
-  IsRefused,
-  Follows,
-  noteShown,
-  refusalIn,
-  allShown,
-  refusals,
-}
+use Rattle.broadcast.specs.Calls.{Machine, Call, next, Did, did, Made, own, shows, added, Todo, call, drain, show, drainAfter, eventAnswer, Follows, noteShown, refusalIn, allShown, refusals}
 use Rattle.broadcast.proofs.Refusals.{did-refused}
 
 abbrev machine : State → List ℕ → List ℕ → Machine

@@ -8,7 +8,7 @@ use lib.ListN.{length, drop}
 use Rattle.wire.specs.Memory.{partOf}
 use Rattle.tlv.specs.Packet.{tooLong, Cut, cut}
 use Rattle.tlv.specs.Run.{packetOf, after, Stepped, kept}
-use Rattle.receiver.specs.declared.state.Cursor.{Cursor}
+use Rattle.delivery.specs.declared.cursor.Cursor.{Cursor}
 use Rattle.receiver.specs.declared.state.Held.{Held}
 use Rattle.receiver.specs.State.{searching, holding}
 use Rattle.receiver.specs.Slot.{slotArea}

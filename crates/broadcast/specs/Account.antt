@@ -1,7 +1,7 @@
 -- The account of a broadcast: from own live slots to units and notes, in stream order, over lists; no memory, no cursor.
 -- Slots have labels of any type; a packet has those of its slots, a unit those of its packets.
 use Prim.Native.Nat.{ℕ}
-use mathlib.Core.Bool.{Bool, cond}
+use mathlib.Core.Bool.{cond}
 use mathlib.Core.List.{List, [], _∷_, _++_, map}
 use lib.ListN.{length, drop}
 use Rattle.mmtp.specs.declared.flow.Flow.{Flow}
@@ -17,7 +17,7 @@ use Rattle.reassembly.specs.declared.config.Config.{Config}
 use Rattle.reassembly.specs.declared.join.Piece.{Piece as JoinPiece}
 use Rattle.reassembly.specs.Unit.{carried}
 use Rattle.reassembly.specs.Run.{Content, Input, Event, note, Line, fresh, step, withLine}
-use Rattle.tlv.specs.Run.{Labelled as Labelled-packet, Event as Slot-event, note as slot-note, packet, Arrival, searching, run}
+use Rattle.tlv.specs.Run.{Event as Slot-event, note as slot-note, packet, Arrival, searching, run}
 
 -- what a TLV packet comes to
 pub data Read : Type 0 where

@@ -1,13 +1,13 @@
 -- Lists of calls, and the reading of a list of frames that they make up.
-use Prim.Native.Nat.{ℕ, suc}
+use Prim.Native.Nat.{ℕ}
 use mathlib.Core.Path.{_≡_}
-use mathlib.Core.Bool.{Bool, true, false, cond}
+use mathlib.Core.Bool.{cond}
 use mathlib.Core.List.{List, [], _∷_, _++_}
 use lib.ListN.{length}
 use lib.Dec.{eqb}
-use Rattle.receiver.specs.declared.answer.Event.{Event}
-use Rattle.receiver.specs.declared.answer.Event.the-variants.{Nothing, Note, Unit, Refused}
-use Rattle.receiver.specs.declared.answer.Given.{Given}
+use Rattle.delivery.specs.declared.event.Event.{Event}
+use Rattle.delivery.specs.declared.event.Event.the-variants.{Nothing, Note, Unit, Refused}
+use Rattle.delivery.specs.declared.event.Given.{Given}
 use Rattle.receiver.specs.declared.state.State.{State}
 use Rattle.receiver.specs.Frame.{frameOf, lostFrameOf}
 use Rattle.receiver.specs.Slot.{slotOf, lostSlotOf}

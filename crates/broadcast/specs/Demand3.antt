@@ -7,7 +7,7 @@ use mathlib.Core.List.{List, [], _∷_}
 use lib.ListN.{length}
 use Rattle.tlv.specs.Run.{Slot}
 use Rattle.reassembly.specs.declared.config.Config.{Config}
-use Rattle.reassembly.specs.Run.{Content, Labelled}
+use Rattle.reassembly.specs.Run.{Content}
 use Rattle.receiver.specs.Start.{startOf}
 use Rattle.broadcast.specs.Drains.{Shown, note, unit}
 use Rattle.broadcast.specs.Carried.{carriedUnits, intactUnits, Few, contents}

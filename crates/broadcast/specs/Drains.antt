@@ -2,7 +2,7 @@
 -- memories stand for the state of the account.
 use Prim.Native.Nat.{ℕ, _+_, _*_, _≤_, _<_}
 use mathlib.Core.Path.{_≡_}
-use mathlib.Core.Bool.{Bool, true, false}
+use mathlib.Core.Bool.{true, false}
 use mathlib.Core.List.{List, [], _∷_}
 use lib.ListN.{length, getD, take, drop}
 use Rattle.tlv.specs.Run.{State as Slot-state, searching, held}
@@ -12,11 +12,12 @@ use Rattle.reassembly.specs.declared.channel.Phase.{Phase}
 use Rattle.reassembly.specs.declared.channel.Phase.the-variants.{Unheard, Waiting, Idle, Open}
 use Rattle.reassembly.specs.Channel.{unheard}
 use Rattle.reassembly.specs.Run.{Content, Event as Account-event, note as account-note, unit as account-unit, Line}
-use Rattle.receiver.specs.declared.answer.Event.the-variants.{Nothing, Note, Unit}
-use Rattle.receiver.specs.declared.answer.Given.{Given}
+use Rattle.delivery.specs.declared.event.Event.the-variants.{Nothing, Note, Unit}
+use Rattle.delivery.specs.declared.event.Given.{Given}
 use Rattle.receiver.specs.declared.state.Held.{Held}
 use Rattle.receiver.specs.declared.state.State.{State}
-use Rattle.receiver.specs.State.{noted, empty}
+use Rattle.delivery.specs.Cursor.{noted}
+use Rattle.delivery.specs.Queue.{empty}
 use Rattle.receiver.specs.Slot.{heldBytes}
 use Rattle.receiver.specs.Next.{nextOf}
 use Rattle.receiver.specs.Show.{showOf}

@@ -7,7 +7,7 @@ use lib.ListN.{length, getD}
 use Rattle.tmcc.specs.declared.layout.Layout.{Layout}
 use Rattle.tmcc.specs.Block.{decodeOf}
 use Rattle.tlv.specs.Run.{Slot, Arrival, lost as lost-slot-arrives, given}
-use Rattle.broadcast.specs.Calls.{Call, frame, lost-frame, slot, lost-slot, next, Todo, call, drain}
+use Rattle.broadcast.specs.Calls.{Call, frame, lost-frame, slot, lost-slot, Todo, call, drain}
 
 -- a control block, and the data of the 120 slots
 pub record Frame : Type 0 where

@@ -9,15 +9,14 @@ use Rattle.mmtp.specs.Unit.{aggregate}
 use Rattle.reassembly.specs.declared.config.Config.{Config}
 use Rattle.reassembly.specs.Channel.{unheard}
 use Rattle.reassembly.specs.Run.{Line}
-use Rattle.receiver.specs.declared.answer.Event.{Event}
-use Rattle.receiver.specs.declared.answer.Event.the-variants.{Nothing, Note, Unit, Refused}
-use Rattle.receiver.specs.declared.state.Give.{Give}
-use Rattle.receiver.specs.declared.state.Give.the-variants.{Nothing as NoUnit, One, Many}
-use Rattle.receiver.specs.declared.state.Queue.{Queue}
+use Rattle.delivery.specs.declared.event.Event.{Event}
+use Rattle.delivery.specs.declared.event.Event.the-variants.{Nothing, Note, Unit, Refused}
+use Rattle.delivery.specs.declared.queue.Give.{Give}
+use Rattle.delivery.specs.declared.queue.Give.the-variants.{Nothing as NoUnit, One, Many}
+use Rattle.delivery.specs.declared.queue.Queue.{Queue}
 use Rattle.receiver.specs.declared.state.State.{State}
-use Rattle.receiver.specs.State.{empty}
+use Rattle.delivery.specs.Queue.{empty, takenOf}
 use Rattle.receiver.specs.Next.{packetOf}
-use Rattle.receiver.specs.Queue.{takenOf}
 use Rattle.broadcast.specs.Account.{After, readOf, afterRead}
 use Rattle.broadcast.specs.Drains.{note, shown, strip, LineIs}
 use Rattle.broadcast.specs.Pending.{queuePending}

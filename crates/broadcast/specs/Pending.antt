@@ -1,5 +1,5 @@
 -- What a receiver's state has yet to give: the notes and packets of the slot, and the notes and units of a packet.
-use Prim.Native.Nat.{ℕ, _+_, _-_}
+use Prim.Native.Nat.{ℕ, _-_}
 use mathlib.Core.Bool.{Bool, true, false, cond}
 use mathlib.Core.List.{List, [], _∷_, _++_, map}
 use lib.ListN.{length, drop}
@@ -9,12 +9,12 @@ use Rattle.tlv.specs.Packet.{cut, tooLong}
 use Rattle.tlv.specs.Run.{Event as Slot-event, note as slot-note, packet as slot-packet}
 use Rattle.mmtp.specs.Unit.{Piece, aggregate}
 use Rattle.reassembly.specs.Unit.{carried}
-use Rattle.receiver.specs.declared.state.Aggregate.{Aggregate}
-use Rattle.receiver.specs.declared.state.Cursor.{Cursor}
-use Rattle.receiver.specs.declared.state.Give.{Give}
-use Rattle.receiver.specs.declared.state.Give.the-variants.{Nothing, One, Many}
+use Rattle.delivery.specs.declared.queue.Aggregate.{Aggregate}
+use Rattle.delivery.specs.declared.cursor.Cursor.{Cursor}
+use Rattle.delivery.specs.declared.queue.Give.{Give}
+use Rattle.delivery.specs.declared.queue.Give.the-variants.{Nothing, One, Many}
 use Rattle.receiver.specs.declared.state.Held.{Held}
-use Rattle.receiver.specs.declared.state.Queue.{Queue}
+use Rattle.delivery.specs.declared.queue.Queue.{Queue}
 use Rattle.receiver.specs.State.{searching, holding}
 use Rattle.broadcast.specs.Drains.{Shown, note, unit, shown}
 

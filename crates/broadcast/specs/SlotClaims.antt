@@ -10,18 +10,18 @@ use Rattle.tmcc.specs.declared.layout.Pointers.{Pointers}
 use Rattle.tlv.specs.Run.{Slot, State as Slot-state, searching as slot-searching, held, Stepped, lost, given, step}
 use Rattle.reassembly.specs.declared.config.Config.{Config}
 use Rattle.reassembly.specs.Run.{Line}
-use Rattle.receiver.specs.declared.next.Found.{Found}
-use Rattle.receiver.specs.declared.answer.Event.{Event as AnEvent}
-use Rattle.receiver.specs.declared.answer.Event.the-variants.{Nothing, Note, Unit as Given-unit, Refused}
-use Rattle.receiver.specs.declared.next.Found.the-variants.{Event, Packet, Tail, Done}
-use Rattle.receiver.specs.declared.state.Cursor.{Cursor}
+use Rattle.delivery.specs.declared.cursor.Found.{Found}
+use Rattle.delivery.specs.declared.event.Event.{Event as AnEvent}
+use Rattle.delivery.specs.declared.event.Event.the-variants.{Nothing, Note, Unit as Given-unit, Refused}
+use Rattle.delivery.specs.declared.cursor.Found.the-variants.{Event, Packet, Tail, Done}
+use Rattle.delivery.specs.declared.cursor.Cursor.{Cursor}
 use Rattle.receiver.specs.declared.state.Frame.{Frame}
 use Rattle.receiver.specs.declared.state.Held.{Held}
 use Rattle.receiver.specs.declared.state.State.{State}
-use Rattle.receiver.specs.State.{searching, holding, noted}
+use Rattle.receiver.specs.State.{searching, holding}
+use Rattle.delivery.specs.Cursor.{noted, advancedOf, left}
 use Rattle.receiver.specs.Frame.{lossOf}
 use Rattle.receiver.specs.Slot.{counted, slotArea, ownOf}
-use Rattle.receiver.specs.Next.{advancedOf, left}
 use Rattle.broadcast.specs.Drains.{HeldIs, Tracks}
 use Rattle.broadcast.specs.Pending.{slot-notes, a-packet, bare, cursorPending, cursorLeaves}
 

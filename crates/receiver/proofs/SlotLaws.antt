@@ -17,33 +17,7 @@ use Rattle.tlv.specs.Slot.{none, sound, unsound-outside}
 use Rattle.tlv.specs.Held.{endWithin, endBeyond, heldTotal, heldEnd, continuationOf}
 use Rattle.receiver.specs.declared.state.Held.{Held}
 use Rattle.receiver.specs.declared.state.State.{State}
-use Rattle.receiver.specs.Slot.{
-  heldBytes,
-  heldLen,
-  movedMem,
-  continuedMem,
-  resumedMem,
-  resumedOf,
-  resumed,
-  copied,
-  ownOf,
-  own-unsound,
-  own-searching,
-  own-held,
-  counted,
-  dueLength,
-  dueOwn,
-  duePointers,
-  refusalOf,
-  ready,
-  wrongLength,
-  right-length,
-  slotOf,
-  slot-refused,
-  slot-wrong-length,
-  slot-not-own,
-  slot-own,
-}
+use Rattle.receiver.specs.Slot.{heldBytes, heldLen, movedMem, continuedMem, resumedMem, resumedOf, resumed, copied, ownOf, own-unsound, own-searching, own-held, counted, dueLength, dueOwn, duePointers, refusalOf, ready, wrongLength, right-length, slotOf, slot-refused, slot-wrong-length, slot-not-own, slot-own}
 
 -- two constructors differ, and so do the two truth values
 differ : {A : Type 0} → _≡_ {A = ℕ} 0 1 → A

@@ -9,8 +9,9 @@ use lib.Dec.{eqb, ltb}
 use Rattle.tmcc.specs.Block.{decodeOf}
 use Rattle.receiver.specs.declared.state.State.{State}
 use Rattle.receiver.specs.declared.answer.Called.{Called}
-use Rattle.receiver.specs.Tests.{neither}
-use Rattle.receiver.specs.State.{searching, noted, withFrame, withOwed, withSlot, refused, accepted}
+use Rattle.delivery.specs.Choice.{neither}
+use Rattle.receiver.specs.State.{searching, withFrame, withOwed, withSlot, refused, accepted}
+use Rattle.delivery.specs.Cursor.{noted}
 
 -- slots are due, or next is owed
 unfoldable pub frameBusy : State → Bool

@@ -1,122 +1,27 @@
 -- Laws of reading on: the cursor has less left with every packet and at the tail, so reading on ends; and what stays as it was.
-use Prim.Native.Nat.{ℕ, zero, suc, _+_, _*_, _≤_, _<_}
+use Prim.Native.Nat.{ℕ, zero, suc, _*_, _≤_, _<_}
 use mathlib.Core.Path.{_≡_, refl, sym, _∙_, ap}
-use mathlib.Core.Bool.{Bool, true, false, true≢false}
+use mathlib.Core.Bool.{Bool, true, false}
 use mathlib.Core.List.{List}
 use native.Mathlib.Omega.{arith}
-use borrow.Author.Tests.{eqb-true, eqb-false}
-use lib.ListN.{length, getD, set, drop, length-drop}
+use lib.ListN.{length, getD, set}
 use lib.Seq.{set-getD}
-use lib.Dec.{eqb}
-use Rattle.wire.specs.Memory.{partOf}
-use Rattle.tlv.specs.declared.packet.Next.{Next}
-use Rattle.tlv.specs.declared.packet.Next.the-variants.{Packet as PacketTo, Tail as TailAt}
-use Rattle.tlv.specs.Packet.{packetAt, complete, total}
-use Rattle.tlv.specs.Cuts.{complete-fits}
-use Rattle.mmtp.specs.Cases.{chose}
 use Rattle.reassembly.specs.Channel.{unheard}
-use Rattle.receiver.specs.declared.answer.Event.{Event as AnEvent}
-use Rattle.receiver.specs.declared.answer.Event.the-variants.{Nothing}
-use Rattle.receiver.specs.declared.state.Cursor.{Cursor}
-use Rattle.receiver.specs.declared.state.Queue.{Queue}
+use Rattle.delivery.specs.declared.event.Event.{Event as AnEvent}
+use Rattle.delivery.specs.declared.event.Event.the-variants.{Nothing}
 use Rattle.receiver.specs.declared.state.State.{State}
-use Rattle.receiver.specs.declared.packet.Arrived.{Arrived}
-use Rattle.receiver.specs.declared.packet.Arrived.the-variants.{Silent, Noted, Good}
-use Rattle.receiver.specs.declared.packet.JoinedPacket.{JoinedPacket}
-use Rattle.receiver.specs.declared.next.Found.{Found}
-use Rattle.receiver.specs.declared.next.Found.the-variants.{Event, Packet, Tail, Done}
-use Rattle.receiver.specs.declared.next.Advanced.{Advanced}
-use Rattle.receiver.specs.declared.next.Turn.{Turn}
+use Rattle.delivery.specs.declared.packet.Arrived.{Arrived}
+use Rattle.delivery.specs.declared.packet.Arrived.the-variants.{Silent, Noted, Good}
+use Rattle.delivery.specs.declared.packet.JoinedPacket.{JoinedPacket}
+use Rattle.delivery.specs.declared.cursor.Found.{Found}
+use Rattle.delivery.specs.declared.cursor.Found.the-variants.{Event, Packet, Tail, Done}
+use Rattle.delivery.specs.declared.cursor.Turn.{Turn}
 use Rattle.receiver.specs.State.{holding, withOwed, withSlot, withQueue, withChannels}
-use Rattle.receiver.specs.Packet.{arrivedAt, placeOf, receivedOf}
-use Rattle.receiver.specs.Within.{part-length, arrived-fits, length-received}
-use Rattle.receiver.specs.Queue.{takenOf}
+use Rattle.delivery.specs.Packet.{arrivedAt, placeOf, receivedOf}
+use Rattle.delivery.specs.Within.{arrived-fits, length-received}
 use Rattle.receiver.specs.Slot.{shortBy}
-use Rattle.receiver.specs.Next.{
-  Out,
-  answered,
-  tailAdvanced,
-  slotAdvanced,
-  advancedOf,
-  arrivedBy,
-  packetOf,
-  isEvent,
-  turnOf,
-  past,
-  onwards,
-  readOn,
-  left,
-  readAll,
-  nextOf,
-  turn-event,
-  turn-on,
-  advanced-note,
-  advanced-packet,
-  advanced-slot,
-  advanced-done,
-  slot-packet,
-  slot-tail,
-  next-short,
-  next-idle,
-  next-reads,
-  short-room,
-}
-
--- next reads on from what was found
-abbrev pub goesOn : Found → Bool
-goesOn (Event e) = false
-goesOn (Packet start end) = true
-goesOn (Tail start len) = true
-goesOn Done = false
-
--- a packet of the slot ends past its place, in the slot
-pub packet-at-within : (s : List ℕ) (at e : ℕ) → packetAt s at ≡ PacketTo e → (at < e) × (e ≤ length s)
-unfolding packetAt
-packet-at-within s at e h =
-    let a = chose (complete (drop at s)) (PacketTo (at + total (drop at s))) TailAt (PacketTo e) h
-    (λ q. let z : _≡_ {A = ℕ} 0 1 = cc in omega arith) in
-    let f = complete-fits (drop at s) (a .0) in
-    let l = length-drop at s in
-    let r : at + total (drop at s) ≡ e = let q : PacketTo (at + total (drop at s)) ≡ PacketTo e = a .1 in cc in
-    (omega arith, omega arith)
-
--- so the cursor has less left past it
-module _ (cur : Cursor) (p : List ℕ) where
-  abbrev Less : Advanced → Type 0
-  Less a = goesOn (a .found) ≡ true → left (a .cursor) < left cur
-
-  slot-less : (n : Next) → packetAt (partOf p 0 (cur .end)) (cur .at) ≡ n → cur .reading ≡ true → Less (slotAdvanced cur p)
-  unfolding left
-  slot-less (PacketTo e) h r =
-      let w = packet-at-within (partOf p 0 (cur .end)) (cur .at) e h in
-      let l = part-length p 0 (cur .end) in
-      rw (slot-packet cur p e h, r) (λ g. omega arith)
-  slot-less TailAt h r = rw (slot-tail cur p h, r) (unfold tailAdvanced in λ g. omega arith)
-
-  reading-less : (r : Bool) → cur .note ≡ 0 → cur .packet ≡ 0 → cur .reading ≡ r → Less (advancedOf cur p)
-  reading-less true n k e = rw (advanced-slot cur p n k e) (slot-less (packetAt (partOf p 0 (cur .end)) (cur .at)) refl e)
-  reading-less false n k e = rw (advanced-done cur p n k e) (λ g. absurd (true≢false (sym g)))
-
-  packet-less : (b : Bool) → cur .note ≡ 0 → eqb (cur .packet) 0 ≡ b → Less (advancedOf cur p)
-  unfolding left
-  packet-less true n e = reading-less (cur .reading) n (eqb-true _ _ e) refl
-  packet-less false n e = rw (advanced-packet cur p n (eqb-false _ _ e)) (λ g. rw e (omega arith))
-
-  note-less : (b : Bool) → eqb (cur .note) 0 ≡ b → Less (advancedOf cur p)
-  note-less true e = packet-less (eqb (cur .packet) 0) (eqb-true _ _ e) refl
-  note-less false e = rw (advanced-note cur p (eqb-false _ _ e)) (λ g. absurd (true≢false (sym g)))
-
-  pub advanced-less : goesOn (advancedOf cur p .found) ≡ true → left (advancedOf cur p .cursor) < left cur
-  advanced-less = note-less (eqb (cur .note) 0) refl
-
-pub turn-less : (q : Queue) (cur : Cursor) (p : List ℕ) → goesOn (turnOf q cur p .found) ≡ true
-    → left (turnOf q cur p .cursor) < left cur
-turn-less q cur p = go (isEvent (takenOf q p .event)) refl
-  where
-    go : (b : Bool) → isEvent (takenOf q p .event) ≡ b → goesOn (turnOf q cur p .found) ≡ true
-        → left (turnOf q cur p .cursor) < left cur
-    go true e = rw (turn-event q cur p e) (λ g. absurd (true≢false (sym g)))
-    go false e = rw (turn-on q cur p e) (advanced-less cur p)
+use Rattle.receiver.specs.Next.{Out, answered, arrivedBy, packetOf, past, onwards, readOn, readAll, nextOf, next-short, next-idle, next-reads, short-room}
+use Rattle.delivery.specs.Cursor.{turnOf, turn-less, left}
 
 -- what a packet leaves as it was
 pub record Kept (st after : State) : Type 0 where

@@ -17,11 +17,13 @@ use Rattle.tlv.specs.Slot.{none, sound}
 use Rattle.tlv.specs.Held.{continuationOf}
 use Rattle.reassembly.specs.declared.config.Config.{Config}
 use Rattle.receiver.specs.declared.state.Held.{Held}
-use Rattle.receiver.specs.declared.state.Cursor.{Cursor}
+use Rattle.delivery.specs.declared.cursor.Cursor.{Cursor}
 use Rattle.receiver.specs.declared.state.State.{State}
 use Rattle.receiver.specs.declared.answer.Called.{Called}
-use Rattle.receiver.specs.Tests.{passed, neither}
-use Rattle.receiver.specs.State.{searching, holding, noted, withFrame, withOwed, withSlot, refused, accepted}
+use Rattle.receiver.specs.Tests.{passed}
+use Rattle.delivery.specs.Choice.{neither}
+use Rattle.receiver.specs.State.{searching, holding, withFrame, withOwed, withSlot, refused, accepted}
+use Rattle.delivery.specs.Cursor.{noted}
 use Rattle.receiver.specs.Frame.{lossOf}
 
 -- "packet memory under 21,433 bytes or collecting memory under n × R", by their lengths

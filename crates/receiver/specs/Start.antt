@@ -17,8 +17,11 @@ use Rattle.reassembly.specs.Channel.{unheard}
 use Rattle.tmcc.specs.Layout.{blankLayout}
 use Rattle.receiver.specs.declared.state.State.{State}
 use Rattle.receiver.specs.declared.answer.Called.{Called}
-use Rattle.receiver.specs.Tests.{passed, neither}
-use Rattle.receiver.specs.State.{searching, noted, empty, refused, accepted}
+use Rattle.receiver.specs.Tests.{passed}
+use Rattle.delivery.specs.Choice.{neither}
+use Rattle.receiver.specs.State.{searching, refused, accepted}
+use Rattle.delivery.specs.Cursor.{noted}
+use Rattle.delivery.specs.Queue.{empty}
 
 abbrev pub isAt : Found → Bool
 isAt (At k) = true

@@ -5,9 +5,8 @@ use mathlib.Core.List.{List}
 use Rattle.reassembly.specs.declared.channel.Channel.{Channel}
 use Rattle.receiver.specs.declared.state.Frame.{Frame}
 use Rattle.receiver.specs.declared.state.Held.{Held}
-use Rattle.receiver.specs.declared.state.Cursor.{Cursor}
-use Rattle.receiver.specs.declared.state.Give.the-variants.{Nothing}
-use Rattle.receiver.specs.declared.state.Queue.{Queue}
+use Rattle.delivery.specs.declared.cursor.Cursor.{Cursor}
+use Rattle.delivery.specs.declared.queue.Queue.{Queue}
 use Rattle.receiver.specs.declared.state.State.{State}
 use Rattle.receiver.specs.declared.answer.Called.{Called}
 
@@ -18,13 +17,6 @@ searching = record { on = false; start = 0; len = 0 }
 -- bytes of a packet are held, perhaps none
 abbrev pub holding : ℕ → ℕ → Held
 holding start len = record { on = true; start = start; len = len }
-
--- nothing is left to read of the slot but its own note
-abbrev pub noted : ℕ → Cursor
-noted n = record { note = n; packet = 0; reading = false; at = 0; end = 0 }
-
-abbrev pub empty : Queue
-empty = record { note = 0; over = false; «packet_id» = 0; give = Nothing }
 
 abbrev pub withFrame : State → Frame → State
 withFrame st f =

@@ -1,14 +1,9 @@
 -- Tests taken apart: an answer of 0 among refusals, and a choice of two that is false.
 use Prim.Native.Nat.{ℕ}
 use mathlib.Core.Path.{_≡_, refl}
-use mathlib.Core.Bool.{Bool, true, false, cond, _||_}
-use native.Mathlib.Omega.{arith}
+use mathlib.Core.Bool.{Bool, true, false, cond}
 
 -- a test that picks a number other than 0 was not met
 pub passed : (t : Bool) (n x : ℕ) → (n ≡ 0 → ⊥) → cond t n x ≡ 0 → (t ≡ false) × (x ≡ 0)
 passed true n x z e = absurd (z e)
 passed false n x z e = (refl, e)
-
-pub neither : (s t : Bool) → (s || t) ≡ false → (s ≡ false) × (t ≡ false)
-neither true t e = absurd (let z : _≡_ {A = ℕ} 0 1 = cc in omega arith)
-neither false t e = (refl, e)

@@ -2,10 +2,10 @@
 ghost use mathlib.Core.Path.{_≡_};
 ghost use Rattle.receiver.specs.Frame.{frameBusy, lossOf, frameOf, lostFrameOf};
 use crate::answer::Called;
-use crate::state::Cursor;
 use crate::state::Frame;
 use crate::state::Held;
 use crate::state::State;
+use delivery::cursor::Cursor;
 
 // Whether slots are due or next is owed.
 fn is_busy(st: State) -> bool

@@ -2,8 +2,6 @@
 pub mod answer;
 pub mod frame;
 pub mod next;
-pub mod packet;
-pub mod queue;
 pub mod show;
 pub mod slot;
 pub mod start;

@@ -2,12 +2,12 @@
 ghost use mathlib.Core.Path.{_≡_};
 ghost use Rattle.receiver.specs.Start.{twice, freshState, refusalOf, startOf};
 use crate::answer::Called;
-use crate::state::Cursor;
 use crate::state::Frame;
-use crate::state::Give;
 use crate::state::Held;
-use crate::state::Queue;
 use crate::state::State;
+use delivery::cursor::Cursor;
+use delivery::queue::Give;
+use delivery::queue::Queue;
 use mmtp::watch::Found;
 use mmtp::watch::Watch;
 use mmtp::watch::lookup;

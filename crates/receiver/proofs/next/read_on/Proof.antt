@@ -5,12 +5,13 @@ use native.Mathlib.Omega.{arith}
 use lib.ListN.{length}
 use borrow.Author.Needs.{needs}
 use mathlib.Core.List.{List}
-use Rattle.receiver.specs.declared.packet.JoinedPacket.{JoinedPacket}
+use Rattle.delivery.specs.declared.packet.JoinedPacket.{JoinedPacket}
 use Rattle.reassembly.specs.Channel.{unheard}
-use Rattle.receiver.specs.Packet.{Fits}
-use Rattle.receiver.specs.Next.{left, readAll}
-use Rattle.receiver.specs.Within.{arrived-below, arrived-fits, length-received}
-use Rattle.receiver.specs.ReadOn.{turn-less, read-event, read-received, read-tail, read-done}
+use Rattle.delivery.specs.Packet.{Fits}
+use Rattle.delivery.specs.Cursor.{left, turn-less}
+use Rattle.receiver.specs.Next.{readAll}
+use Rattle.delivery.specs.Within.{arrived-below, arrived-fits, length-received}
+use Rattle.receiver.specs.ReadOn.{read-event, read-received, read-tail, read-done}
 use Rattle.receiver.proofs.next.read_on.Statement.{statement}
 use Rattle.receiver.proofs.next.read_on.Tie as tie
 

@@ -1,0 +1,106 @@
+-- Why `arrive` meets its contract: by the packet's flow.
+use lib.Seq.{take-all}
+use lib.ListN.{length, take, drop, length-drop}
+use Prim.Native.Nat.{_<_, _≤_, _-_}
+use native.Mathlib.Omega.{arith}
+use Rattle.delivery.specs.Within.{part-within}
+use Rattle.delivery.specs.Packet.{arrived-silent, arrived-malformed, arrived-mmtp}
+use Rattle.mmtp.specs.Flow.{flowOf, mmtp-place}
+use Rattle.wire.specs.Memory.{partOf}
+use mathlib.Core.Path.{_≡_, sym, _∙_}
+use borrow.Author.Needs.{needs}
+use Rattle.delivery.proofs.packet.arrive.Statement.{statement}
+use Rattle.delivery.proofs.packet.arrive.Tie as tie
+
+-- the MMTP packet lies in the TLV packet
+inside : (d : tie.After-flow) → let n = d .flow .given .0 .0 in
+    (7 ≤ n) × (n ≤ length (d .before .before .before .part .result .now))
+inside d = let r = mmtp-place _ _ _ (sym (d .before .before .find .ensures) ∙ d .flow .given .1) in (r .1, r .2)
+
+-- the flow of the packet's bytes
+flows : (d : tie.After-find) → let a = d .before .before .before .before .args in
+    flowOf (partOf (a .memory .now) (a .start) (a .end - a .start)) (a .config .cid) ≡ d .find .result
+flows d = rw (d .find .ensures, d .before .part .ensures, d .before .before .distance .ensures)
+
+distance-requires : tie.Need-distance-requires
+distance-requires c κs = search needs
+
+part-requires : tie.Need-part-requires
+part-requires c κs = search needs
+
+find-requires : tie.Need-find-requires
+find-requires c κs = search needs
+
+enum-told : tie.Need-enum-told
+enum-told c = search needs
+
+enum-told-2 : tie.Need-enum-told-2
+enum-told-2 c = search needs
+
+enum-known-flow : tie.Need-enum-known-flow
+enum-known-flow c = search needs
+
+sub-read : tie.Need-sub-read
+sub-read c = inside (c .before .before) .1
+
+part-read-start : tie.Need-part-read-start
+part-read-start c =
+    let h = inside (c .before .before) in
+    search needs
+
+part-read-end : tie.Need-part-read-end
+part-read-end c = search needs
+
+read-requires : tie.Need-read-requires
+read-requires c κs = search needs
+
+add-locate : tie.Need-add-locate
+add-locate c =
+    let d = c .before .before .before .before in
+    let b = d .before .before .before .part in
+    let h = inside d in
+    let z : 0 < length (b .result .now) = omega arith in
+    let w = part-within _ _ _ (rw (b .ensures) at z) in
+    let v = rw (← b .ensures) at w in
+    omega arith
+
+locate-requires : tie.Need-locate-requires
+locate-requires c κs = search needs
+
+returns : tie.Need-returns
+returns c = sym (arrived-silent _ _ _ _ (flows (c .before .before) ∙ c .enum-told .given .1))
+
+returns-2 : tie.Need-returns-2
+returns-2 c = sym (arrived-malformed _ _ _ _ (flows (c .before .before) ∙ c .enum-told2 .given .1))
+
+returns-3 : tie.Need-returns-3
+returns-3 c =
+    let f = c .before .before .before .before .before in
+    let d = f .before .before in
+    let b = d .before .part .result .now in
+    let n = f .flow .given .0 .0 in
+    let l = length-drop n b in
+    let e : take (length b - n) (drop n b) ≡ drop n b = take-all (length b - n) (drop n b) (omega arith) in
+    c .locate .ensures
+    ∙ rw (c .before .read .ensures, e, d .before .part .ensures, d .before .before .distance .ensures)
+    (sym (arrived-mmtp _ _ _ _ _ (flows d ∙ f .flow .given .1)))
+
+pub arrive-spec : {M : Type 1} → statement M
+arrive-spec =
+    tie.close
+    (tie.spec
+    distance-requires
+    part-requires
+    find-requires
+    enum-told
+    enum-told-2
+    enum-known-flow
+    sub-read
+    part-read-start
+    part-read-end
+    read-requires
+    add-locate
+    locate-requires
+    returns
+    returns-2
+    returns-3)

@@ -1,0 +1,6 @@
+-- The definitions of delivery.
+pub mod Choice
+pub mod Packet
+pub mod Within
+pub mod Queue
+pub mod Cursor

@@ -1,0 +1,203 @@
+-- A TLV packet in packet memory: read, and joined to the state of its packet_id over collecting memory.
+use Prim.Native.Nat.{ℕ, _+_, _-_, _*_, _≤_, _<_}
+use mathlib.Core.Bool.{Bool, true, false, cond}
+use mathlib.Core.Path.{_≡_, ap}
+use mathlib.Core.List.{List}
+use lib.ListN.{drop}
+use Rattle.wire.specs.Memory.{partOf, pasted}
+use Rattle.mmtp.specs.declared.flow.Flow.{Flow}
+use Rattle.mmtp.specs.declared.flow.Flow.the-variants.{Silent as OtherFlow, Malformed, Mmtp}
+use Rattle.mmtp.specs.declared.packet.Packet.{Packet}
+use Rattle.mmtp.specs.declared.packet.Reading.{Reading}
+use Rattle.mmtp.specs.declared.packet.Reading.the-variants.{Silent as Unwatched, BadHeader, BadPayload, Good as GoodPacket}
+use Rattle.mmtp.specs.declared.unit.DataUnit.{DataUnit}
+use Rattle.mmtp.specs.declared.unit.Step.{Step}
+use Rattle.mmtp.specs.declared.unit.Step.the-variants.{Unit, Malformed as NoUnit, End}
+use Rattle.mmtp.specs.declared.payload.Payload.{Payload}
+use Rattle.mmtp.specs.Flow.{flowOf}
+use Rattle.mmtp.specs.Packet.{readingOf}
+use Rattle.mmtp.specs.Unit.{noFields, singleAt}
+use Rattle.reassembly.specs.declared.config.Config.{Config}
+use Rattle.reassembly.specs.declared.channel.Channel.{Channel}
+use Rattle.reassembly.specs.declared.join.Piece.{Piece}
+use Rattle.reassembly.specs.declared.join.Joined.{Joined}
+use Rattle.reassembly.specs.declared.join.Action.{Action}
+use Rattle.reassembly.specs.declared.join.Action.the-variants.{Nothing as NoAction, Whole, Store, Complete}
+use Rattle.reassembly.specs.Unit.{carried}
+use Rattle.reassembly.specs.Join.{joinOf}
+use Rattle.delivery.specs.declared.event.Memory.the-variants.{Packet as PacketMemory, Collecting}
+use Rattle.delivery.specs.declared.event.Given.{Given}
+use Rattle.delivery.specs.declared.queue.Give.{Give}
+use Rattle.delivery.specs.declared.queue.Give.the-variants.{Nothing, One, Many}
+use Rattle.delivery.specs.declared.queue.Queue.{Queue}
+use Rattle.delivery.specs.declared.packet.Located.{Located}
+use Rattle.delivery.specs.declared.packet.Arrived.{Arrived}
+use Rattle.delivery.specs.declared.packet.Arrived.the-variants.{Silent, Noted, Good}
+use Rattle.delivery.specs.declared.packet.JoinedPacket.{JoinedPacket}
+
+-- an MMTP packet that stands from `start` to `end`
+abbrev pub readBy : Reading → ℕ → ℕ → Arrived
+readBy Unwatched start end = Silent
+readBy BadHeader start end = Noted 51 0
+readBy (BadPayload id) start end = Noted 52 id
+readBy (GoodPacket p) start end = Good (record { packet = p; start = start; end = end })
+
+abbrev pub flowBy : Flow → Config → List ℕ → ℕ → ℕ → Arrived
+flowBy OtherFlow c b start end = Silent
+flowBy Malformed c b start end = Noted 50 0
+flowBy (Mmtp n) c b start end = readBy (readingOf (drop n b) (c .watch)) (start + n) end
+
+-- the TLV packet that stands from `start` to `end` in packet memory
+unfoldable pub arrivedAt : Config → List ℕ → ℕ → ℕ → Arrived
+arrivedAt c p start end = let b = partOf p start (end - start) in flowBy (flowOf b (c .cid)) c b start end
+
+-- the bytes of an MMTP packet
+abbrev pub bytesAt : Located → List ℕ → List ℕ
+bytesAt l p = partOf p (l .start) (l .end - l .start)
+
+abbrev pub Unit₀ : Type 0
+Unit₀ = Prim.Unit {0}
+
+abbrev pub blankUnit : DataUnit
+blankUnit = record { fields = noFields; start = 0; end = 0 }
+
+abbrev pub unitOr : Step → DataUnit
+unitOr (Unit u) = u
+unitOr NoUnit = blankUnit
+unitOr End = blankUnit
+
+-- the data unit of a packet that is not aggregated
+unfoldable pub firstUnit : List ℕ → Payload → DataUnit
+firstUnit m y = cond (y .aggregated) blankUnit (unitOr (singleAt m (y .start) (y .kind)))
+
+abbrev pub unitLen : DataUnit → ℕ
+unitLen u = u .end - u .start
+
+abbrev pub pieceFrom : Packet → DataUnit → Piece
+pieceFrom k u =
+    record {
+      unit = carried k (u .fields);
+      indicator = k .payload .indicator;
+      counter = k .payload .counter;
+      len = unitLen u;
+    }
+
+-- a data unit's bytes, in collecting memory from `at`
+abbrev pub stored : List ℕ → ℕ → List ℕ → DataUnit → List ℕ
+stored c at m u = pasted c at (drop (u .start) m) (unitLen u)
+
+-- "id k (from 0) collects from k × R": the piece's bytes, where the action says
+unfoldable pub collected : Action → List ℕ → ℕ → List ℕ → DataUnit → List ℕ
+collected NoAction c base m u = c
+collected Whole c base m u = c
+collected (Store at) c base m u = stored c (base + at) m u
+collected (Complete at) c base m u = stored c (base + at) m u
+
+-- the data unit lies in the packet, and fits where it is stored
+pub record Stored (c at m : ℕ) (u : DataUnit) : Type 0 where
+  pub ordered : u .start ≤ u .end
+  pub within : u .end ≤ m
+  pub fits : at + unitLen u ≤ c
+
+abbrev pub Room : Action → ℕ → ℕ → ℕ → DataUnit → Type 0
+Room NoAction c base m u = Unit₀
+Room Whole c base m u = Unit₀
+Room (Store at) c base m u = Stored c (base + at) m u
+Room (Complete at) c base m u = Stored c (base + at) m u
+
+-- a joined unit's length is a number
+abbrev pub Reach : Action → DataUnit → Type 0
+Reach NoAction u = Unit₀
+Reach Whole u = Unit₀
+Reach (Store at) u = Unit₀
+Reach (Complete at) u = at + unitLen u < 18446744073709551616
+
+-- a whole unit stands in packet memory
+abbrev pub wholeGiven : Located → DataUnit → Given
+wholeGiven l u =
+    record {
+      unit = carried (l .packet) (u .fields);
+      place = record { memory = PacketMemory; start = l .start + u .start; len = unitLen u };
+    }
+
+-- a joined unit stands in collecting memory
+abbrev pub joinedGiven : Joined → ℕ → ℕ → Given
+joinedGiven j base len =
+    record { unit = j .channel .current .unit; place = record { memory = Collecting; start = base; len = len } }
+
+abbrev pub wholesOf : Bool → Located → DataUnit → Give
+wholesOf true l u = Many (record { packet = l .packet; start = l .start; end = l .end; at = l .packet .payload .start })
+wholesOf false l u = One (wholeGiven l u)
+
+unfoldable pub giveOf : Action → Joined → Located → ℕ → DataUnit → Give
+giveOf NoAction j l base u = Nothing
+giveOf Whole j l base u = wholesOf (l .packet .payload .aggregated) l u
+giveOf (Store at) j l base u = Nothing
+giveOf (Complete at) j l base u = One (joinedGiven j base (at + unitLen u))
+
+abbrev pub queueOf : Joined → Located → ℕ → DataUnit → Queue
+queueOf j l base u =
+    record { note = j .note; over = j .over; «packet_id» = l .packet .«packet_id»; give = giveOf (j .action) j l base u }
+
+-- where the packet_id collects
+abbrev pub baseOf : Located → ℕ → ℕ
+baseOf l limit = l .packet .place * limit
+
+abbrev pub unitIn : Located → List ℕ → DataUnit
+unitIn l p = firstUnit (bytesAt l p) (l .packet .payload)
+
+abbrev pub stepOf : Channel → Located → List ℕ → ℕ → Joined
+stepOf ch l p limit = joinOf ch (pieceFrom (l .packet) (unitIn l p)) limit
+
+-- the state of the packet_id, what next has yet to give, and collecting memory
+abbrev pub joinedBy : Joined → Located → List ℕ → DataUnit → List ℕ → ℕ → JoinedPacket × List ℕ
+joinedBy j l m u c base =
+    (record { channel = j .channel; queue = queueOf j l base u }, collected (j .action) c base m u)
+
+unfoldable pub joinedOf : Channel → Located → List ℕ → List ℕ → ℕ → JoinedPacket × List ℕ
+joinedOf ch l p c limit = joinedBy (stepOf ch l p limit) l (bytesAt l p) (unitIn l p) c (baseOf l limit)
+
+-- the place of the packet's packet_id in the watch list; 0 where there is no packet to join
+abbrev pub placeOf : Arrived → ℕ
+placeOf Silent = 0
+placeOf (Noted n id) = 0
+placeOf (Good l) = l .packet .place
+
+-- there is room where the packet's packet_id collects
+abbrev pub Fits : Arrived → ℕ → ℕ → Type 0
+Fits Silent limit n = Unit₀
+Fits (Noted m id) limit n = Unit₀
+Fits (Good l) limit n = l .packet .place * limit + limit ≤ n
+
+-- what next has yet to give of a packet with note 50, 51 or 52
+abbrev pub noteQueue : ℕ → ℕ → Queue
+noteQueue n id = record { note = n; over = false; «packet_id» = id; give = Nothing }
+
+-- a packet comes to the state of its packet_id, and to an empty queue
+unfoldable pub receivedOf : Arrived → Channel → Queue → List ℕ → List ℕ → ℕ → JoinedPacket × List ℕ
+receivedOf Silent ch q p c limit = (record { channel = ch; queue = q }, c)
+receivedOf (Noted n id) ch q p c limit = (record { channel = ch; queue = noteQueue n id }, c)
+receivedOf (Good l) ch q p c limit = joinedOf ch l p c limit
+
+-- Laws.
+
+-- a TLV packet, by its flow
+module _ (c : Config) (p : List ℕ) (start end : ℕ) where
+  pub arrived-silent : flowOf (partOf p start (end - start)) (c .cid) ≡ OtherFlow → arrivedAt c p start end ≡ Silent
+  unfolding arrivedAt
+  arrived-silent e = rw e
+
+  pub arrived-malformed : flowOf (partOf p start (end - start)) (c .cid) ≡ Malformed → arrivedAt c p start end ≡ Noted 50 0
+  unfolding arrivedAt
+  arrived-malformed e = rw e
+
+  pub arrived-mmtp : (n : ℕ) → flowOf (partOf p start (end - start)) (c .cid) ≡ Mmtp n
+      → arrivedAt c p start end ≡ readBy (readingOf (drop n (partOf p start (end - start))) (c .watch)) (start + n) end
+  unfolding arrivedAt
+  arrived-mmtp n e = rw e
+
+-- a packet is joined by its step
+pub joined-by : (ch : Channel) (l : Located) (p c : List ℕ) (limit : ℕ) (j : Joined) → stepOf ch l p limit ≡ j
+    → joinedOf ch l p c limit ≡ joinedBy j l (bytesAt l p) (unitIn l p) c (baseOf l limit)
+unfolding joinedOf
+joined-by ch l p c limit j e = ap (λ (x : Joined). joinedBy x l (bytesAt l p) (unitIn l p) c (baseOf l limit)) e

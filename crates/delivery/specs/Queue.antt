@@ -1,0 +1,103 @@
+-- What next has yet to give of a packet, one event at a time: its note, note 64, its units.
+use Prim.Native.Nat.{ℕ, _-_}
+use mathlib.Core.Path.{_≡_, _∙_, ap}
+use mathlib.Core.Bool.{true, false, cond}
+use mathlib.Core.List.{List}
+use borrow.Author.Tests.{eq-eqb, ne-eqb}
+use lib.Dec.{eqb}
+use Rattle.delivery.specs.Choice.{chosen, chosen-not}
+use Rattle.wire.specs.Memory.{partOf}
+use Rattle.mmtp.specs.declared.unit.Step.{Step}
+use Rattle.mmtp.specs.declared.unit.Step.the-variants.{Unit as UnitAt, Malformed, End}
+use Rattle.mmtp.specs.Unit.{unitAt}
+use Rattle.delivery.specs.declared.event.Event.the-variants.{Nothing, Note, Unit}
+use Rattle.delivery.specs.declared.event.Given.{Given}
+use Rattle.delivery.specs.declared.queue.Give.{Give}
+use Rattle.delivery.specs.declared.queue.Give.the-variants.{Nothing as NoUnit, One, Many}
+use Rattle.delivery.specs.declared.queue.Aggregate.{Aggregate}
+use Rattle.delivery.specs.declared.queue.Queue.{Queue}
+use Rattle.delivery.specs.declared.queue.Taken.{Taken}
+use Rattle.delivery.specs.Packet.{wholeGiven}
+
+abbrev pub empty : Queue
+empty = record { note = 0; over = false; «packet_id» = 0; give = NoUnit }
+
+abbrev pub giving : Queue → Give → Queue
+giving q g = record { note = q .note; over = q .over; «packet_id» = q .«packet_id»; give = g }
+
+-- the queue gives no more
+abbrev pub finished : Queue → Taken
+finished q = record { event = Nothing; queue = giving q NoUnit }
+
+-- the next unit of an aggregate
+abbrev pub manyBy : Step → Aggregate → Queue → Taken
+manyBy (UnitAt u) a q =
+    record {
+      event = Unit (wholeGiven (record { packet = a .packet; start = a .start; end = a .end }) u);
+      queue = giving q (Many (record { packet = a .packet; start = a .start; end = a .end; at = u .end }));
+    }
+manyBy Malformed a q = finished q
+manyBy End a q = finished q
+
+-- what stands at the next unit's place
+abbrev pub nextUnit : Aggregate → List ℕ → Step
+nextUnit a p = unitAt (partOf p (a .start) (a .end - a .start)) (a .at) (a .packet .payload .kind) (a .packet .payload .wide)
+
+abbrev pub giveBy : Give → Queue → List ℕ → Taken
+giveBy NoUnit q p = record { event = Nothing; queue = q }
+giveBy (One g) q p = record { event = Unit g; queue = giving q NoUnit }
+giveBy (Many a) q p = manyBy (nextUnit a p) a q
+
+-- the event, Nothing where the queue is empty, and the queue after it
+unfoldable pub takenOf : Queue → List ℕ → Taken
+takenOf q p =
+    cond (eqb (q .note) 0)
+    (cond (q .over)
+    (record {
+      event = Note 64 (q .«packet_id»);
+      queue = record { note = 0; over = false; «packet_id» = q .«packet_id»; give = q .give };
+    })
+    (giveBy (q .give) q p))
+    (record {
+      event = Note (q .note) (q .«packet_id»);
+      queue = record { note = 0; over = q .over; «packet_id» = q .«packet_id»; give = q .give };
+    })
+
+-- Laws.
+
+module _ (q : Queue) (p : List ℕ) where
+  pub taken-note : (q .note ≡ 0 → ⊥)
+      → takenOf q p
+      ≡ record {
+        event = Note (q .note) (q .«packet_id»);
+        queue = record { note = 0; over = q .over; «packet_id» = q .«packet_id»; give = q .give };
+      }
+  unfolding takenOf
+  taken-note h = chosen-not (eqb (q .note) 0) _ _ (ne-eqb (q .note) 0 h)
+
+  pub taken-over : q .note ≡ 0 → q .over ≡ true
+      → takenOf q p
+      ≡ record {
+        event = Note 64 (q .«packet_id»);
+        queue = record { note = 0; over = false; «packet_id» = q .«packet_id»; give = q .give };
+      }
+  unfolding takenOf
+  taken-over h o = chosen (eqb (q .note) 0) _ _ (eq-eqb (q .note) 0 h) ∙ chosen (q .over) _ _ o
+
+  pub taken-give : q .note ≡ 0 → q .over ≡ false → takenOf q p ≡ giveBy (q .give) q p
+  unfolding takenOf
+  taken-give h o = chosen (eqb (q .note) 0) _ _ (eq-eqb (q .note) 0 h) ∙ chosen-not (q .over) _ _ o
+
+  -- its units, one at a time
+  module _ (h : q .note ≡ 0) (o : q .over ≡ false) where
+    taken-by : (g : Give) → q .give ≡ g → takenOf q p ≡ giveBy g q p
+    taken-by g e = taken-give h o ∙ ap (λ (x : Give). giveBy x q p) e
+
+    pub taken-nothing : q .give ≡ NoUnit → takenOf q p ≡ record { event = Nothing; queue = q }
+    taken-nothing e = taken-by NoUnit e
+
+    pub taken-one : (g : Given) → q .give ≡ One g → takenOf q p ≡ record { event = Unit g; queue = giving q NoUnit }
+    taken-one g e = taken-by (One g) e
+
+    pub taken-many : (a : Aggregate) → q .give ≡ Many a → (s : Step) → nextUnit a p ≡ s → takenOf q p ≡ manyBy s a q
+    taken-many a e s n = taken-by (Many a) e ∙ ap (λ (x : Step). manyBy x a q) n

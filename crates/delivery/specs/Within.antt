@@ -1,0 +1,246 @@
+-- Where packets and their data units lie in packet memory, and pieces in collecting memory.
+use Prim.Native.Nat.{ℕ, zero, suc, _+_, _-_, _*_, _≤_, _<_}
+use mathlib.Core.Path.{_≡_, refl}
+use mathlib.Core.Bool.{Bool, true, false, cond, _&&_}
+use mathlib.Core.List.{List, []}
+use native.Mathlib.Omega.{arith}
+use native.Mathlib.Nat.{mul-le-mul-right, suc-mul}
+use borrow.Author.Tests.{leb-true, ltb-false}
+use lib.ListN.{length, getD, take, drop, length-take, length-drop}
+use lib.Dec.{leb, ltb}
+use lib.Seq.{take-take, length-take-le}
+use Rattle.wire.specs.Memory.{partOf, pasted, length-pasted}
+use Rattle.mmtp.specs.declared.flow.Flow.{Flow}
+use Rattle.mmtp.specs.declared.flow.Flow.the-variants.{Silent as OtherFlow, Malformed, Mmtp}
+use Rattle.mmtp.specs.declared.packet.Reading.{Reading}
+use Rattle.mmtp.specs.declared.packet.Reading.the-variants.{Silent as Unwatched, BadHeader, BadPayload, Good as GoodPacket}
+use Rattle.mmtp.specs.declared.payload.Payload.{Payload}
+use Rattle.mmtp.specs.declared.payload.Indicator.{Indicator}
+use Rattle.mmtp.specs.declared.payload.Indicator.the-variants.{Whole as FI00, First, Middle, Last}
+use Rattle.mmtp.specs.declared.unit.DataUnit.{DataUnit}
+use Rattle.mmtp.specs.declared.unit.Step.the-variants.{Unit, Malformed as NoUnit, End}
+use Rattle.mmtp.specs.Cases.{chose, chose-not}
+use Rattle.mmtp.specs.Flow.{flowOf}
+use Rattle.mmtp.specs.Packet.{readingOf, packet-place}
+use Rattle.mmtp.specs.Unit.{unitAt, dataUnit, unitFits, unit-fits, unit-fits-end, singleAt, singleUnit, singleFits, single-next}
+use Rattle.reassembly.specs.declared.config.Config.{Config}
+use Rattle.reassembly.specs.declared.channel.Channel.{Channel}
+use Rattle.reassembly.specs.declared.channel.Phase.{Phase}
+use Rattle.reassembly.specs.declared.channel.Phase.the-variants.{Unheard, Waiting, Idle, Open}
+use Rattle.reassembly.specs.declared.join.Piece.{Piece}
+use Rattle.reassembly.specs.declared.join.Joined.{Joined}
+use Rattle.reassembly.specs.declared.join.Action.{Action}
+use Rattle.reassembly.specs.declared.join.Action.the-variants.{Nothing as NoAction, Whole, Store, Complete}
+use Rattle.reassembly.specs.Unit.{agrees}
+use Rattle.reassembly.specs.Channel.{gap}
+use Rattle.reassembly.specs.Join.{joinOf, acted, actedBy, begun, followed, followedIn, extended, grown, recorded, inPhase, counterFollows}
+use Rattle.delivery.specs.Choice.{by-test}
+use Rattle.delivery.specs.declared.queue.Queue.{Queue}
+use Rattle.delivery.specs.declared.packet.Located.{Located}
+use Rattle.delivery.specs.declared.packet.Arrived.{Arrived}
+use Rattle.delivery.specs.declared.packet.Arrived.the-variants.{Silent, Noted, Good}
+use Rattle.delivery.specs.Packet.{readBy, flowBy, arrivedAt, firstUnit, unitOr, unitLen, blankUnit, Room, Reach, placeOf, Fits, Unit₀, collected, bytesAt, unitIn, baseOf, stepOf, pieceFrom, joinedOf, receivedOf}
+
+-- a part of a memory
+module _ (s : List ℕ) (start len : ℕ) where
+  abbrev Lies : List ℕ → Type 0
+  Lies b = (0 < length b → start + length b ≤ length s) × (length b ≤ len)
+
+  part-by : (a b : Bool) → leb start (length s) ≡ a → leb len (length s - start) ≡ b
+      → Lies (cond a (cond b (take len (drop start s)) []) [])
+  part-by false b p q = (λ h. omega arith, omega arith)
+  part-by true false p q = (λ h. omega arith, omega arith)
+  part-by true true p q =
+      let l = leb-true start (length s) p in
+      let t = length-take len (drop start s) in
+      let d = length-drop start s in
+      (λ h. omega arith, omega arith)
+
+  -- it lies in the memory, unless it is empty
+  pub part-within : 0 < length (partOf s start len) → start + length (partOf s start len) ≤ length s
+  unfolding partOf
+  part-within = part-by (leb start (length s)) (leb len (length s - start)) refl refl .0
+
+  pub part-length : length (partOf s start len) ≤ len
+  unfolding partOf
+  part-length = part-by (leb start (length s)) (leb len (length s - start)) refl refl .1
+
+-- so places in it are numbers, as all of the memory's are
+pub part-reach : (s : List ℕ) (start len k n : ℕ) → start < n → length s < n → k ≤ length (partOf s start len) → start + k < n
+part-reach s start len zero n h l e = omega arith
+part-reach s start len (suc k) n h l e = let w = part-within s start len (omega arith) in omega arith
+
+-- a data unit lies in its packet
+pub record Inside (m : List ℕ) (u : DataUnit) : Type 0 where
+  pub ordered : u .start ≤ u .end
+  pub within : u .end ≤ length m
+
+-- also one of an aggregate
+pub unit-inside : (m : List ℕ) (at kind : ℕ) (wide : Bool) (u : DataUnit) → unitAt m at kind wide ≡ Unit u → Inside m u
+unfolding unitAt dataUnit
+unit-inside m at kind wide u e =
+    let v : DataUnit = dataUnit m at kind wide in
+    let a = chose-not (leb (length m) at) End _ (Unit u) e (λ q. let z : _≡_ {A = ℕ} 0 1 = cc in omega arith) in
+    let b = chose (unitFits (drop at m) kind wide) (Unit v) NoUnit (Unit u) (a .1)
+    (λ q. let z : _≡_ {A = ℕ} 0 1 = cc in omega arith) in
+    let f = unit-fits (drop at m) kind wide (b .0) in
+    let g = unit-fits-end m at kind wide (b .0) in
+    let r : v ≡ u = let q : Unit v ≡ Unit u = b .1 in cc in
+    rw (← r) (record { ordered = omega arith; within = omega arith })
+
+single-inside : (m : List ℕ) (at kind : ℕ) (b : Bool) → singleFits m at kind ≡ b
+    → Inside m (unitOr (cond b (Unit (singleUnit m at kind)) NoUnit))
+single-inside m at kind true e = let s = single-next m at kind e in record { ordered = s .ordered; within = s .within }
+single-inside m at kind false e = record { ordered = omega arith; within = omega arith }
+
+first-by : (m : List ℕ) (y : Payload) (b : Bool) → Inside m (cond b blankUnit (unitOr (singleAt m (y .start) (y .kind))))
+unfolding singleAt
+first-by m y true = record { ordered = omega arith; within = omega arith }
+first-by m y false = single-inside m (y .start) (y .kind) (singleFits m (y .start) (y .kind)) refl
+
+pub first-inside : (m : List ℕ) (y : Payload) → Inside m (firstUnit m y)
+unfolding firstUnit
+first-inside m y = first-by m y (y .aggregated)
+
+-- a packet that is read has a place in the watch list
+pub record Watched (c : Config) (l : Located) : Type 0 where
+  pub low : l .packet .place < 16
+  pub listed : l .packet .place < c .watch .n
+  pub id : getD (c .watch .ids) (l .packet .place) 0 ≡ l .packet .«packet_id»
+
+module _ (c : Config) (p : List ℕ) (start end : ℕ) where
+  reading-place : (b : List ℕ) (r : Reading) (from : ℕ) (l : Located) → readingOf b (c .watch) ≡ r → readBy r from end ≡ Good l
+      → Watched c l
+  reading-place b Unwatched from l e q = let z : _≡_ {A = ℕ} 0 1 = cc in absurd (omega arith)
+  reading-place b BadHeader from l e q = let z : _≡_ {A = ℕ} 0 1 = cc in absurd (omega arith)
+  reading-place b (BadPayload id) from l e q = let z : _≡_ {A = ℕ} 0 1 = cc in absurd (omega arith)
+  reading-place b (GoodPacket k) from l e q =
+      let r : record { packet = k; start = from; end = end } ≡ l = cc in
+      let w = packet-place b (c .watch) k e in
+      rw (← r) (record { low = w .0; listed = w .1; id = w .2 })
+
+  flow-place : (b : List ℕ) (f : Flow) (l : Located) → flowBy f c b start end ≡ Good l → Watched c l
+  flow-place b OtherFlow l q = let z : _≡_ {A = ℕ} 0 1 = cc in absurd (omega arith)
+  flow-place b Malformed l q = let z : _≡_ {A = ℕ} 0 1 = cc in absurd (omega arith)
+  flow-place b (Mmtp n) l q = reading-place (drop n b) (readingOf (drop n b) (c .watch)) (start + n) l refl q
+
+  pub arrived-place : (l : Located) → arrivedAt c p start end ≡ Good l → Watched c l
+  unfolding arrivedAt
+  arrived-place l q = let b = partOf p start (end - start) in flow-place b (flowOf b (c .cid)) l q
+
+  pub arrived-below : (a : Arrived) → arrivedAt c p start end ≡ a → placeOf a < 16
+  arrived-below Silent e = omega arith
+  arrived-below (Noted n id) e = omega arith
+  arrived-below (Good l) e = arrived-place l e .low
+
+  -- and room where it collects
+  pub arrived-fits : (a : Arrived) (n : ℕ) → arrivedAt c p start end ≡ a → c .watch .n * c .limit ≤ n → Fits a (c .limit) n
+  arrived-fits Silent n e h = tt
+  arrived-fits (Noted k id) n e h = tt
+  arrived-fits (Good l) n e h =
+      let k : ℕ = l .packet .place in
+      let r : k * c .limit + c .limit ≤ c .watch .n * c .limit =
+      rw suc-mul at (mul-le-mul-right (c .limit) (arrived-place l e .listed)) in
+      omega arith
+
+-- what an action stores ends within the limit
+abbrev pub Below : Action → ℕ → ℕ → Type 0
+Below NoAction n limit = Unit₀
+Below Whole n limit = Unit₀
+Below (Store at) n limit = at + n ≤ limit
+Below (Complete at) n limit = at + n ≤ limit
+
+module _ (p : Piece) (limit : ℕ) where
+  abbrev Keeps : Joined → Type 0
+  Keeps j = Below (j .action) (p .len) limit
+
+  begun-below : (ch : Channel) (n : ℕ) → Keeps (begun ch p limit n)
+  unfolding begun
+  begun-below ch n = by-test Keeps (ltb limit (p .len)) _ _ (λ e. tt) (λ e. let h = ltb-false limit (p .len) e in omega arith)
+
+  grown-below : (ch : Channel) (last : Bool) → ch .current .len + p .len ≤ limit → Keeps (grown ch p last)
+  unfolding grown
+  grown-below ch true h = h
+  grown-below ch false h = h
+
+  extended-below : (ch : Channel) (last : Bool) → Keeps (extended ch p limit last)
+  unfolding extended
+  extended-below ch last =
+      by-test Keeps (agrees (ch .current .unit) (p .unit) && counterFollows (ch .current .counter) (p .counter)) _ _
+      (λ e. by-test Keeps (ltb limit (ch .current .len + p .len)) _ _ (λ f. tt) (λ f. grown-below ch last (ltb-false _ _ f)))
+      (λ e. tt)
+
+  followed-below : (ph : Phase) (ch : Channel) (last : Bool) → Keeps (followedIn ph ch p limit last)
+  followed-below Unheard ch last = tt
+  followed-below Waiting ch last = tt
+  followed-below Idle ch last = tt
+  followed-below Open ch last = extended-below ch last
+
+  acted-by : (i : Indicator) (ch : Channel) → Keeps (actedBy i ch p limit)
+  unfolding followed
+  acted-by FI00 ch = tt
+  acted-by First ch = begun-below ch _
+  acted-by Middle ch = followed-below (ch .phase) ch false
+  acted-by Last ch = followed-below (ch .phase) ch true
+
+  pub joined-below : (ch : Channel) → Below (joinOf ch p limit .action) (p .len) limit
+  unfolding joinOf acted
+  joined-below ch =
+      by-test Keeps (gap ch (p .unit .psn)) _ _ (λ e. acted-by (p .indicator) (inPhase (recorded ch p) Waiting))
+      (λ e. acted-by (p .indicator) (recorded ch p))
+
+-- so a piece fits where its packet_id collects
+pub room : (a : Action) (c base limit : ℕ) (m : List ℕ) (u : DataUnit) → Below a (unitLen u) limit → base + limit ≤ c → Inside m u
+    → Room a c base (length m) u
+room NoAction c base limit m u b h i = tt
+room Whole c base limit m u b h i = tt
+room (Store at) c base limit m u b h i = record { ordered = i .ordered; within = i .within; fits = omega arith }
+room (Complete at) c base limit m u b h i = record { ordered = i .ordered; within = i .within; fits = omega arith }
+
+pub reach : (a : Action) (limit : ℕ) (u : DataUnit) → Below a (unitLen u) limit → limit < 18446744073709551616 → Reach a u
+reach NoAction limit u b h = tt
+reach Whole limit u b h = tt
+reach (Store at) limit u b h = tt
+reach (Complete at) limit u b h = omega arith
+
+-- and collecting memory stays as long as it was
+pub length-collected : (a : Action) (c : List ℕ) (base : ℕ) (m : List ℕ) (u : DataUnit) → Room a (length c) base (length m) u
+    → length (collected a c base m u) ≡ length c
+unfolding collected
+length-collected NoAction c base m u r = refl
+length-collected Whole c base m u r = refl
+length-collected (Store at) c base m u r =
+    length-pasted c (base + at) (drop (u .start) m) (unitLen u) (r .fits) (rw length-drop (omega arith))
+length-collected (Complete at) c base m u r =
+    length-pasted c (base + at) (drop (u .start) m) (unitLen u) (r .fits) (rw length-drop (omega arith))
+
+-- where a packet's bytes come from
+module _ (ch : Channel) (l : Located) (p c : List ℕ) (limit : ℕ) (h : l .packet .place * limit + limit ≤ length c) where
+  abbrev joins : Joined
+  joins = stepOf ch l p limit
+
+  pub joined-room : Room (joins .action) (length c) (baseOf l limit) (length (bytesAt l p)) (unitIn l p)
+  joined-room =
+      room (joins .action) (length c) (baseOf l limit) limit (bytesAt l p) (unitIn l p)
+      (joined-below (pieceFrom (l .packet) (unitIn l p)) limit ch) h (first-inside (bytesAt l p) (l .packet .payload))
+
+  pub joined-reach : limit < 18446744073709551616 → Reach (joins .action) (unitIn l p)
+  joined-reach k =
+      reach (joins .action) limit (unitIn l p) (joined-below (pieceFrom (l .packet) (unitIn l p)) limit ch) k
+
+  pub length-joined : length (joinedOf ch l p c limit .1) ≡ length c
+  unfolding joinedOf
+  length-joined = length-collected (joins .action) c (baseOf l limit) (bytesAt l p) (unitIn l p) joined-room
+
+pub length-received : (a : Arrived) (ch : Channel) (q : Queue) (p c : List ℕ) (limit : ℕ) → Fits a limit (length c)
+    → length (receivedOf a ch q p c limit .1) ≡ length c
+unfolding receivedOf
+length-received Silent ch q p c limit h = refl
+length-received (Noted n id) ch q p c limit h = refl
+length-received (Good l) ch q p c limit h = length-joined ch l p c limit h
+
+-- the first bytes of a list, put into a memory
+pub pasted-take : (d : List ℕ) (at : ℕ) (s : List ℕ) (n : ℕ) → n ≤ length s
+    → pasted d at (take n s) (length (take n s)) ≡ pasted d at s n
+unfolding pasted
+pasted-take d at s n h = let e : length (take n s) ≡ n = length-take-le n s h in rw (e, take-take n n s (omega arith))
