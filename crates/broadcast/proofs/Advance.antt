@@ -15,10 +15,11 @@ use Rattle.tlv.specs.Cuts.{complete-fits, cut-end, cut-more}
 use Rattle.delivery.specs.declared.cursor.Advanced.{Advanced}
 use Rattle.delivery.specs.declared.event.Event.the-variants.{Note}
 use Rattle.delivery.specs.declared.cursor.Found.the-variants.{Event, Packet, Tail, Done}
-use Rattle.delivery.specs.declared.cursor.Cursor.{Cursor}
-use Rattle.receiver.specs.declared.state.Held.{Held}
-use Rattle.receiver.specs.State.{holding}
-use Rattle.delivery.specs.Cursor.{noted, tailAdvanced, slotAdvanced, advancedOf, left}
+use Rattle.intake.specs.declared.held.Cursor.{Cursor}
+use Rattle.intake.specs.declared.held.Held.{Held}
+use Rattle.intake.specs.Slot.{holding}
+use Rattle.intake.specs.Slot.{noted}
+use Rattle.delivery.specs.Cursor.{tailAdvanced, slotAdvanced, advancedOf, left}
 use Rattle.broadcast.specs.Pending.{Found, slot-notes, a-packet, some-if, slotPending, heldAfter, cursorPending, cursorLeaves}
 use Rattle.broadcast.specs.SlotClaims.{CursorGood, Advances, Advance}
 use Rattle.broadcast.proofs.SlotCut.{cutGives, cutLeaves, leaves-cut}

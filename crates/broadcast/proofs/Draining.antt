@@ -14,11 +14,12 @@ use Rattle.delivery.specs.declared.event.Event.{Event}
 use Rattle.delivery.specs.declared.event.Event.the-variants.{Nothing, Note, Unit, Refused}
 use Rattle.delivery.specs.declared.cursor.Found.{Found}
 use Rattle.delivery.specs.declared.cursor.Found.the-variants.{Event as AnEvent, Packet, Tail, Done}
-use Rattle.delivery.specs.declared.cursor.Cursor.{Cursor}
+use Rattle.intake.specs.declared.held.Cursor.{Cursor}
 use Rattle.receiver.specs.declared.state.Frame.{Frame}
 use Rattle.delivery.specs.declared.queue.Queue.{Queue}
 use Rattle.receiver.specs.declared.state.State.{State}
-use Rattle.receiver.specs.State.{holding, withSlot, withQueue}
+use Rattle.intake.specs.Slot.{holding}
+use Rattle.receiver.specs.State.{withSlot, withQueue}
 use Rattle.delivery.specs.Queue.{takenOf}
 use Rattle.receiver.specs.Slot.{shortBy}
 use Rattle.receiver.specs.Next.{Out, onwards, readOn, readAll, nextOf, past, packetOf}

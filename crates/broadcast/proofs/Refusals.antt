@@ -17,7 +17,7 @@ use Rattle.delivery.specs.declared.queue.Taken.{Taken}
 use Rattle.delivery.specs.declared.cursor.Found.{Found}
 use Rattle.delivery.specs.declared.cursor.Found.the-variants.{Event as AnEvent, Packet, Tail, Done}
 use Rattle.delivery.specs.declared.cursor.Advanced.{Advanced}
-use Rattle.delivery.specs.declared.cursor.Cursor.{Cursor}
+use Rattle.intake.specs.declared.held.Cursor.{Cursor}
 use Rattle.mmtp.specs.declared.unit.Step.{Step}
 use Rattle.mmtp.specs.declared.unit.Step.the-variants.{Unit as UnitAt, Malformed, End}
 use Rattle.receiver.specs.Frame.{frameBusy, frameOf, lostFrameOf}

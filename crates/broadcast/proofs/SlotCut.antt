@@ -8,10 +8,10 @@ use lib.ListN.{length, drop}
 use Rattle.wire.specs.Memory.{partOf}
 use Rattle.tlv.specs.Packet.{tooLong, Cut, cut}
 use Rattle.tlv.specs.Run.{packetOf, after, Stepped, kept}
-use Rattle.delivery.specs.declared.cursor.Cursor.{Cursor}
-use Rattle.receiver.specs.declared.state.Held.{Held}
-use Rattle.receiver.specs.State.{searching, holding}
-use Rattle.receiver.specs.Slot.{slotArea}
+use Rattle.intake.specs.declared.held.Cursor.{Cursor}
+use Rattle.intake.specs.declared.held.Held.{Held}
+use Rattle.intake.specs.Slot.{searching, holding}
+use Rattle.intake.specs.Slot.{slotArea}
 use Rattle.broadcast.specs.Drains.{HeldIs}
 use Rattle.broadcast.specs.Pending.{Found, slot-notes, a-packet, bare, slotUpTo, tailOf, tailHeld, heldAfter}
 use Rattle.broadcast.specs.SlotClaims.{Short}

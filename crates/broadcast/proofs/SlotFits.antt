@@ -13,7 +13,7 @@ use Rattle.tlv.specs.Packet.{maxPacket}
 use Rattle.tlv.specs.Slot.{none}
 use Rattle.tlv.specs.Held.{heldTotal, heldEnd, continuationOf, held-too-long}
 use Rattle.tlv.proofs.Answers.{endOf, Says}
-use Rattle.receiver.specs.Slot.{slotArea}
+use Rattle.intake.specs.Slot.{slotArea}
 
 -- what has to have room: the held bytes with those of the slot that continue them
 abbrev pub Fits : Continuation → List ℕ → List ℕ → Type 0

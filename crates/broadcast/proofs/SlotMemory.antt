@@ -9,8 +9,8 @@ use borrow.Author.Tests.{le-leb}
 use Rattle.wire.specs.Memory.{partOf, pasted, length-pasted}
 use Rattle.tlv.specs.Packet.{cut}
 use Rattle.tlv.specs.Cuts.{cut-tail, cut-tail-length}
-use Rattle.receiver.specs.declared.state.Held.{Held}
-use Rattle.receiver.specs.Slot.{slotArea, copied, movedMem, continuedMem, heldBytes, heldLen}
+use Rattle.intake.specs.declared.held.Held.{Held}
+use Rattle.intake.specs.Slot.{slotArea, copied, movedMem, continuedMem, heldBytes, heldLen}
 
 module _ (p : List ℕ) where
   pub part-is : (s n : ℕ) → s + n ≤ length p → partOf p s n ≡ take n (drop s p)

@@ -20,13 +20,15 @@ use Rattle.tlv.specs.Held.{continuationOf}
 use Rattle.tlv.specs.Run.{Slot, State as Slot-state, searching as slot-searching, held, Stepped, Event, lost, given, stops, after, note, readFrom, finished, resumed, arrived, step}
 use Rattle.tlv.proofs.Answers.{says, top-inside}
 use Rattle.tlv.proofs.Runs.{step-given}
-use Rattle.delivery.specs.declared.cursor.Cursor.{Cursor}
-use Rattle.receiver.specs.declared.state.Held.{Held}
+use Rattle.intake.specs.declared.held.Cursor.{Cursor}
+use Rattle.intake.specs.declared.held.Held.{Held}
 use Rattle.receiver.specs.declared.state.State.{State}
-use Rattle.receiver.specs.State.{searching, holding, withSlot}
-use Rattle.delivery.specs.Cursor.{noted}
+use Rattle.intake.specs.Slot.{searching, holding}
+use Rattle.receiver.specs.State.{withSlot}
+use Rattle.intake.specs.Slot.{noted}
 use Rattle.receiver.specs.Frame.{lossOf}
-use Rattle.receiver.specs.Slot.{counted, slotArea, cursorFrom, heldBytes, packetEnd, resumedState, continuedMem, resumedMem, copied, resumedOf, ownBy, ownOf}
+use Rattle.receiver.specs.Slot.{counted, resumedState, ownBy, ownOf}
+use Rattle.intake.specs.Slot.{slotArea, cursorFrom, heldBytes, packetEnd, continuedMem, resumedMem, copied, resumedOf}
 use Rattle.broadcast.specs.Drains.{HeldIs}
 use Rattle.broadcast.specs.Pending.{Found, slot-notes, a-packet, bare, some-if, cursorPending, cursorLeaves}
 use Rattle.broadcast.specs.SlotClaims.{Short, CursorGood, Same, Reads, slotFrom, OwnSlot, LostSlot, LostFrame}

@@ -14,11 +14,11 @@ use Rattle.reassembly.specs.Channel.{unheard}
 use Rattle.reassembly.specs.Run.{Content, Event as Account-event, note as account-note, unit as account-unit, Line}
 use Rattle.delivery.specs.declared.event.Event.the-variants.{Nothing, Note, Unit}
 use Rattle.delivery.specs.declared.event.Given.{Given}
-use Rattle.receiver.specs.declared.state.Held.{Held}
+use Rattle.intake.specs.declared.held.Held.{Held}
 use Rattle.receiver.specs.declared.state.State.{State}
-use Rattle.delivery.specs.Cursor.{noted}
+use Rattle.intake.specs.Slot.{noted}
 use Rattle.delivery.specs.Queue.{empty}
-use Rattle.receiver.specs.Slot.{heldBytes}
+use Rattle.intake.specs.Slot.{heldBytes}
 use Rattle.receiver.specs.Next.{nextOf}
 use Rattle.receiver.specs.Show.{showOf}
 

@@ -10,12 +10,12 @@ use Rattle.tlv.specs.Run.{Event as Slot-event, note as slot-note, packet as slo
 use Rattle.mmtp.specs.Unit.{Piece, aggregate}
 use Rattle.reassembly.specs.Unit.{carried}
 use Rattle.delivery.specs.declared.queue.Aggregate.{Aggregate}
-use Rattle.delivery.specs.declared.cursor.Cursor.{Cursor}
+use Rattle.intake.specs.declared.held.Cursor.{Cursor}
 use Rattle.delivery.specs.declared.queue.Give.{Give}
 use Rattle.delivery.specs.declared.queue.Give.the-variants.{Nothing, One, Many}
-use Rattle.receiver.specs.declared.state.Held.{Held}
+use Rattle.intake.specs.declared.held.Held.{Held}
 use Rattle.delivery.specs.declared.queue.Queue.{Queue}
-use Rattle.receiver.specs.State.{searching, holding}
+use Rattle.intake.specs.Slot.{searching, holding}
 use Rattle.broadcast.specs.Drains.{Shown, note, unit, shown}
 
 -- what a slot gives, without labels

@@ -14,14 +14,16 @@ use Rattle.delivery.specs.declared.cursor.Found.{Found}
 use Rattle.delivery.specs.declared.event.Event.{Event as AnEvent}
 use Rattle.delivery.specs.declared.event.Event.the-variants.{Nothing, Note, Unit as Given-unit, Refused}
 use Rattle.delivery.specs.declared.cursor.Found.the-variants.{Event, Packet, Tail, Done}
-use Rattle.delivery.specs.declared.cursor.Cursor.{Cursor}
+use Rattle.intake.specs.declared.held.Cursor.{Cursor}
 use Rattle.receiver.specs.declared.state.Frame.{Frame}
-use Rattle.receiver.specs.declared.state.Held.{Held}
+use Rattle.intake.specs.declared.held.Held.{Held}
 use Rattle.receiver.specs.declared.state.State.{State}
-use Rattle.receiver.specs.State.{searching, holding}
-use Rattle.delivery.specs.Cursor.{noted, advancedOf, left}
+use Rattle.intake.specs.Slot.{searching, holding}
+use Rattle.intake.specs.Slot.{noted}
+use Rattle.delivery.specs.Cursor.{advancedOf, left}
 use Rattle.receiver.specs.Frame.{lossOf}
-use Rattle.receiver.specs.Slot.{counted, slotArea, ownOf}
+use Rattle.receiver.specs.Slot.{counted, ownOf}
+use Rattle.intake.specs.Slot.{slotArea}
 use Rattle.broadcast.specs.Drains.{HeldIs, Tracks}
 use Rattle.broadcast.specs.Pending.{slot-notes, a-packet, bare, cursorPending, cursorLeaves}
 

@@ -13,7 +13,8 @@ use Rattle.tlv.specs.declared.packet.Next.the-variants.{Packet as PacketTo, Tai
 use Rattle.tlv.specs.Packet.{packetAt, tooLong, complete, total}
 use Rattle.delivery.specs.declared.event.Event.{Event as AnEvent}
 use Rattle.delivery.specs.declared.event.Event.the-variants.{Nothing, Note, Unit, Refused}
-use Rattle.delivery.specs.declared.cursor.Cursor.{Cursor}
+use Rattle.intake.specs.declared.held.Cursor.{Cursor}
+use Rattle.intake.specs.Slot.{noted}
 use Rattle.delivery.specs.declared.queue.Queue.{Queue}
 use Rattle.delivery.specs.declared.cursor.Found.{Found}
 use Rattle.delivery.specs.declared.cursor.Found.the-variants.{Event, Packet, Tail, Done}
@@ -24,10 +25,6 @@ use native.Mathlib.Omega.{arith}
 use Rattle.tlv.specs.Cuts.{complete-fits}
 use Rattle.mmtp.specs.Cases.{chose}
 use Rattle.delivery.specs.Within.{part-length}
-
--- nothing is left to read of the slot but its own note
-abbrev pub noted : ℕ → Cursor
-noted n = record { note = n; packet = 0; reading = false; at = 0; end = 0 }
 
 -- "a tail is held, but one whose known total is above 16,384 gives 43"
 unfoldable pub tailAdvanced : List ℕ → ℕ → ℕ → Advanced

@@ -7,19 +7,8 @@ use crate::event::Event;
 use crate::packet::distance;
 use crate::queue::Queue;
 use crate::queue::take;
+use intake::held::Cursor;
 use tlv::packet::Next;
-
-// What next has yet to read of the slot.
-pub struct Cursor {
-    // The slot's own note, 40 to 43; 0 for none.
-    pub note: u8,
-    // The end of the held packet that the slot completed, which stands from byte 0; 0 for none.
-    pub packet: usize,
-    // Whether packets are read from the slot, and from where to where in packet memory.
-    pub reading: bool,
-    pub at: usize,
-    pub end: usize,
-}
 
 // What next comes to.
 pub enum Found {

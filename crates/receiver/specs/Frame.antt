@@ -10,8 +10,8 @@ use Rattle.tmcc.specs.Block.{decodeOf}
 use Rattle.receiver.specs.declared.state.State.{State}
 use Rattle.receiver.specs.declared.answer.Called.{Called}
 use Rattle.delivery.specs.Choice.{neither}
-use Rattle.receiver.specs.State.{searching, withFrame, withOwed, withSlot, refused, accepted}
-use Rattle.delivery.specs.Cursor.{noted}
+use Rattle.intake.specs.Slot.{lostOf}
+use Rattle.receiver.specs.State.{withFrame, withOwed, withIntake, refused, accepted}
 
 -- slots are due, or next is owed
 unfoldable pub frameBusy : State → Bool
@@ -26,9 +26,9 @@ frameOf st b =
     cond (eqb (d .refusal) 0) (accepted (withFrame st (record { layout = d .layout; at = 0 }))) (refused (d .refusal) st)))
     (refused 10 st)
 
--- "A lost slot makes it searching, with note 40 if it wasn't"; next is owed
+-- an own live slot is lost, and next is owed
 unfoldable pub lossOf : State → State
-lossOf st = withOwed (withSlot st searching (noted (cond (st .held .on) 40 0))) true
+lossOf st = withOwed (withIntake st (lostOf (st .held))) true
 
 -- "its 120 slots all lost, together read as one lost own slot"
 unfoldable pub lostFrameOf : State → Called

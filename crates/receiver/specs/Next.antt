@@ -19,7 +19,8 @@ use Rattle.delivery.specs.declared.packet.Arrived.the-variants.{Silent, Noted, 
 use Rattle.delivery.specs.declared.cursor.Found.{Found}
 use Rattle.delivery.specs.declared.cursor.Found.the-variants.{Event, Packet, Tail, Done}
 use Rattle.delivery.specs.declared.cursor.Turn.{Turn}
-use Rattle.receiver.specs.State.{holding, withOwed, withSlot, withQueue, withChannels}
+use Rattle.intake.specs.Slot.{holding}
+use Rattle.receiver.specs.State.{withOwed, withSlot, withQueue, withChannels}
 use Rattle.receiver.specs.Slot.{shortBy}
 use Rattle.delivery.specs.Packet.{noteQueue, arrivedAt, joinedOf}
 use Rattle.delivery.specs.Cursor.{turnOf, left}

@@ -16,7 +16,8 @@ use Rattle.delivery.specs.declared.packet.JoinedPacket.{JoinedPacket}
 use Rattle.delivery.specs.declared.cursor.Found.{Found}
 use Rattle.delivery.specs.declared.cursor.Found.the-variants.{Event, Packet, Tail, Done}
 use Rattle.delivery.specs.declared.cursor.Turn.{Turn}
-use Rattle.receiver.specs.State.{holding, withOwed, withSlot, withQueue, withChannels}
+use Rattle.intake.specs.Slot.{holding}
+use Rattle.receiver.specs.State.{withOwed, withSlot, withQueue, withChannels}
 use Rattle.delivery.specs.Packet.{arrivedAt, placeOf, receivedOf}
 use Rattle.delivery.specs.Within.{arrived-fits, length-received}
 use Rattle.receiver.specs.Slot.{shortBy}

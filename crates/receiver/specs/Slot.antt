@@ -7,23 +7,16 @@ use mathlib.Core.Logic.{_↔_}
 use native.Mathlib.Nat.{div-lt-iff-lt-mul}
 use native.Mathlib.Omega.{arith}
 use borrow.Author.Tests.{lt-ltb, le-ltb, le-leb, lt-leb, eq-eqb, ne-eqb, ltb-true, ltb-false, leb-false, eqb-true, not-false}
-use lib.ListN.{length, getD, drop}
+use lib.ListN.{length, getD}
 use lib.Dec.{eqb, ltb, leb}
-use Rattle.wire.specs.Memory.{partOf, pasted}
 use Rattle.tmcc.specs.declared.layout.Pointers.{Pointers}
-use Rattle.tlv.specs.declared.held.Continuation.{Continuation}
-use Rattle.tlv.specs.declared.held.Continuation.the-variants.{TooLong, Misfit, Ends, GoesOn}
-use Rattle.tlv.specs.Slot.{none, sound}
-use Rattle.tlv.specs.Held.{continuationOf}
 use Rattle.reassembly.specs.declared.config.Config.{Config}
-use Rattle.receiver.specs.declared.state.Held.{Held}
-use Rattle.delivery.specs.declared.cursor.Cursor.{Cursor}
 use Rattle.receiver.specs.declared.state.State.{State}
 use Rattle.receiver.specs.declared.answer.Called.{Called}
 use Rattle.receiver.specs.Tests.{passed}
 use Rattle.delivery.specs.Choice.{neither}
-use Rattle.receiver.specs.State.{searching, holding, withFrame, withOwed, withSlot, refused, accepted}
-use Rattle.delivery.specs.Cursor.{noted}
+use Rattle.intake.specs.Slot.{takenOf}
+use Rattle.receiver.specs.State.{withFrame, withOwed, withIntake, refused, accepted}
 use Rattle.receiver.specs.Frame.{lossOf}
 
 -- "packet memory under 21,433 bytes or collecting memory under n × R", by their lengths
@@ -39,75 +32,12 @@ refusalOf st packet collecting =
 unfoldable pub counted : State → State
 counted st = withOwed (withFrame st (record { layout = st .frame .layout; at = st .frame .at + 1 })) true
 
--- the slot stands in packet memory from byte 16,384
-abbrev pub slotArea : ℕ
-slotArea = 16384
-
--- what next reads: the slot's note, the packet that it completed, then the packets from the top pointer on
-unfoldable pub cursorFrom : ℕ → ℕ → ℕ → ℕ → Cursor
-cursorFrom note packet top l =
-    cond (eqb top none) (record { note = note; packet = packet; reading = false; at = 0; end = 0 })
-    (record { note = note; packet = packet; reading = true; at = slotArea + top; end = slotArea + l })
-
-abbrev pub readingFrom : State → ℕ → ℕ → ℕ → ℕ → State
-readingFrom st note packet top l = withSlot st searching (cursorFrom note packet top l)
-
--- the held bytes
-abbrev pub heldBytes : Held → List ℕ → List ℕ
-heldBytes h p = partOf p (h .start) (h .len)
-
-abbrev pub heldLen : Held → List ℕ → ℕ
-heldLen h p = length (heldBytes h p)
-
--- the end of the packet that the slot completes, from byte 0; 0 where nothing was held
-abbrev pub packetEnd : ℕ → ℕ → ℕ
-packetEnd n end = cond (eqb n 0) 0 (n + end)
-
--- a sound slot comes to `n` held bytes
-unfoldable pub resumedState : Continuation → State → ℕ → ℕ → ℕ → State
-resumedState TooLong st n top l = readingFrom st 43 0 top l
-resumedState Misfit st n top l = readingFrom st 42 0 top l
-resumedState (Ends e) st n top l =
-    withSlot st (cond (eqb top none) (holding 0 0) searching) (cursorFrom 0 (packetEnd n e) top l)
-resumedState GoesOn st n top l = withSlot st (holding 0 (n + l)) (noted 0)
-
--- "its bytes so far come to stand from byte 0 and the slot's continuing bytes follow them"
-unfoldable pub movedMem : Held → List ℕ → List ℕ
-movedMem h p = pasted p 0 (drop (h .start) p) (heldLen h p)
-
-unfoldable pub continuedMem : Held → List ℕ → List ℕ → ℕ → List ℕ
-continuedMem h p d k = pasted (movedMem h p) (heldLen h p) d k
-
-unfoldable pub resumedMem : Continuation → Held → List ℕ → List ℕ → List ℕ
-resumedMem TooLong h p d = p
-resumedMem Misfit h p d = p
-resumedMem (Ends e) h p d = continuedMem h p d e
-resumedMem GoesOn h p d = continuedMem h p d (length d)
-
--- "then the slot, sound or not, is copied from byte 16,384"
-unfoldable pub copied : List ℕ → List ℕ → List ℕ
-copied p d = pasted p slotArea d (length d)
-
--- the state, and packet memory
+-- an own live slot: the state, and packet memory
 abbrev pub Taken : Type 0
 Taken = State × List ℕ
 
-abbrev pub resumedBy : Continuation → State → List ℕ → List ℕ → Pointers → Taken
-resumedBy k st p d t = (resumedState k st (heldLen (st .held) p) (t .0) (length d), resumedMem k (st .held) p d)
-
-unfoldable pub resumedOf : State → List ℕ → List ℕ → Pointers → Taken
-resumedOf st p d t = resumedBy (continuationOf (heldBytes (st .held) p) d (t .0) (t .1)) st p d t
-
--- an own live slot by whether it is sound and whether bytes are held, before it is copied
-abbrev pub ownBy : Bool → Bool → State → List ℕ → List ℕ → Pointers → Taken
-ownBy false on st p d t = (withSlot st searching (noted 41), p)
-ownBy true false st p d t = (readingFrom st 0 0 (t .0) (length d), p)
-ownBy true true st p d t = resumedOf st p d t
-
-unfoldable pub ownOf : State → List ℕ → List ℕ → Pointers → Taken
-ownOf st p d t =
-    let r = ownBy (sound d (t .0) (t .1)) (st .held .on) st p d t in
-    (r .0, copied (r .1) d)
+abbrev pub ownOf : State → List ℕ → List ℕ → Pointers → Taken
+ownOf st p d t = let r = takenOf (st .held) p d t in (withIntake st (r .0), r .1)
 
 -- the slot that is due: its data length, pointers, and whether it is an own live one
 abbrev pub dueLength : State → ℕ
@@ -239,26 +169,6 @@ module _ (due l : ℕ) where
   right-length e =
       let p = neither (ltb 5049 l) (not (eqb l due)) e in
       (ltb-false _ _ (p .0), eqb-true _ _ (not-false _ (p .1)))
-
--- an own live slot: unsound, while searching, and with bytes held
-module _ (st : State) (p d : List ℕ) (t : Pointers) where
-  pub own-unsound : sound d (t .0) (t .1) ≡ false → ownOf st p d t ≡ (withSlot st searching (noted 41), copied p d)
-  unfolding ownOf
-  own-unsound s = rw s
-
-  module _ (s : sound d (t .0) (t .1) ≡ true) where
-    pub own-searching : st .held .on ≡ false → ownOf st p d t ≡ (readingFrom st 0 0 (t .0) (length d), copied p d)
-    unfolding ownOf
-    own-searching o = rw (s, o)
-
-    pub own-held : st .held .on ≡ true → ownOf st p d t ≡ (resumedOf st p d t .0, copied (resumedOf st p d t .1) d)
-    unfolding ownOf
-    own-held o = rw (s, o)
-
-  pub resumed : (k : Continuation) → continuationOf (heldBytes (st .held) p) d (t .0) (t .1) ≡ k
-      → resumedOf st p d t ≡ resumedBy k st p d t
-  unfolding resumedOf
-  resumed k e = rw e
 
 -- the cases of slot
 module _ (st : State) (p c d : List ℕ) where

@@ -19,8 +19,8 @@ use Rattle.receiver.specs.declared.state.State.{State}
 use Rattle.receiver.specs.declared.answer.Called.{Called}
 use Rattle.receiver.specs.Tests.{passed}
 use Rattle.delivery.specs.Choice.{neither}
-use Rattle.receiver.specs.State.{searching, refused, accepted}
-use Rattle.delivery.specs.Cursor.{noted}
+use Rattle.intake.specs.Slot.{searching, noted}
+use Rattle.receiver.specs.State.{refused, accepted}
 use Rattle.delivery.specs.Queue.{empty}
 
 abbrev pub isAt : Found → Bool

@@ -1,22 +1,15 @@
 -- Parts of the receiver's state, set.
 use Prim.Native.Nat.{ℕ}
-use mathlib.Core.Bool.{Bool, true, false}
+use mathlib.Core.Bool.{Bool}
 use mathlib.Core.List.{List}
 use Rattle.reassembly.specs.declared.channel.Channel.{Channel}
 use Rattle.receiver.specs.declared.state.Frame.{Frame}
-use Rattle.receiver.specs.declared.state.Held.{Held}
-use Rattle.delivery.specs.declared.cursor.Cursor.{Cursor}
+use Rattle.intake.specs.declared.held.Held.{Held}
+use Rattle.intake.specs.declared.held.Cursor.{Cursor}
+use Rattle.intake.specs.declared.held.Intake.{Intake}
 use Rattle.delivery.specs.declared.queue.Queue.{Queue}
 use Rattle.receiver.specs.declared.state.State.{State}
 use Rattle.receiver.specs.declared.answer.Called.{Called}
-
--- searching
-abbrev pub searching : Held
-searching = record { on = false; start = 0; len = 0 }
-
--- bytes of a packet are held, perhaps none
-abbrev pub holding : ℕ → ℕ → Held
-holding start len = record { on = true; start = start; len = len }
 
 abbrev pub withFrame : State → Frame → State
 withFrame st f =
@@ -53,6 +46,10 @@ withSlot st h c =
       queue = st .queue;
       channels = st .channels;
     }
+
+-- what a slot leaves
+abbrev pub withIntake : State → Intake → State
+withIntake st i = withSlot st (i .held) (i .cursor)
 
 abbrev pub withQueue : State → Queue → State
 withQueue st q =

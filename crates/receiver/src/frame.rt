@@ -3,9 +3,8 @@ ghost use mathlib.Core.Path.{_≡_};
 ghost use Rattle.receiver.specs.Frame.{frameBusy, lossOf, frameOf, lostFrameOf};
 use crate::answer::Called;
 use crate::state::Frame;
-use crate::state::Held;
 use crate::state::State;
-use delivery::cursor::Cursor;
+use crate::state::settle;
 
 // Whether slots are due or next is owed.
 fn is_busy(st: State) -> bool
@@ -46,30 +45,14 @@ pub fn frame(st: State, block: &[u8]) -> Called
     Called { refusal: 0, state }
 }
 
-// The state after a lost own live slot: searching, with note 40 if it wasn't.
+// An own live slot is lost, and next is owed.
 pub fn after_loss(st: State) -> State
     ensures { λ r. ⌜ r ≡ lossOf st ⌝ }
 {
-    let before = st.held;
-    let note = if before.on { 40 } else { 0 };
-    let held = Held {
-        on: false,
-        start: 0,
-        len: 0,
-    };
-    let cursor = Cursor {
-        note,
-        packet: 0,
-        reading: false,
-        at: 0,
-        end: 0,
-    };
-    State {
-        owed: true,
-        held,
-        cursor,
-        ..st
-    }
+    let held = st.held;
+    let lost = intake::slot::lose(held);
+    let next = settle(st, lost);
+    State { owed: true, ..next }
 }
 
 // A lost frame, read as one lost own live slot.

@@ -2,11 +2,10 @@
 ghost use mathlib.Core.Path.{_≡_};
 ghost use Prim.Native.Nat.{_*_, _≤_};
 ghost use lib.ListN.{length};
-ghost use Rattle.receiver.specs.State.{holding};
+ghost use Rattle.intake.specs.Slot.{holding};
 ghost use Rattle.receiver.specs.Next.{readAll, nextOf};
 use crate::answer::Answer;
 use crate::slot::is_short;
-use crate::state::Held;
 use crate::state::State;
 use delivery::cursor::Found;
 use delivery::cursor::find;
@@ -14,6 +13,7 @@ use delivery::event::Event;
 use delivery::packet::arrive;
 use delivery::packet::place;
 use delivery::packet::receive;
+use intake::held::Held;
 
 // A tail is held.
 fn hold(start: usize, len: usize) -> Held

@@ -1,6 +1,10 @@
 // The receiver's state.
-use delivery::cursor::Cursor;
+ghost use mathlib.Core.Path.{_≡_};
+ghost use Rattle.receiver.specs.State.{withIntake};
 use delivery::queue::Queue;
+use intake::held::Cursor;
+use intake::held::Held;
+use intake::held::Intake;
 use reassembly::channel::Channel;
 use reassembly::config::Config;
 use tmcc::layout::Layout;
@@ -9,13 +13,6 @@ use tmcc::layout::Layout;
 pub struct Frame {
     pub layout: Layout,
     pub at: usize,
-}
-
-// Held bytes of a TLV packet, perhaps none, and where they stand in packet memory; searching where not `on`.
-pub struct Held {
-    pub on: bool,
-    pub start: usize,
-    pub len: usize,
 }
 
 pub struct State {
@@ -27,4 +24,13 @@ pub struct State {
     pub cursor: Cursor,
     pub queue: Queue,
     pub channels: [Channel; 16],
+}
+
+// What a slot leaves is in the state.
+pub fn settle(st: State, taken: Intake) -> State
+    ensures { λ r. ⌜ r ≡ withIntake st taken ⌝ }
+{
+    let held = taken.held;
+    let cursor = taken.cursor;
+    State { held, cursor, ..st }
 }

@@ -1,12 +1,20 @@
--- Why after_loss meets its contract: the note is 40 where bytes were held.
-use mathlib.Core.Logic.{⊎-elim}
+-- Why after_loss meets its contract: what a lost slot leaves is settled.
 use Rattle.receiver.specs.Frame.{lossOf}
+use borrow.Author.Needs.{needs}
 use Rattle.receiver.proofs.frame.after_loss.Statement.{statement}
 use Rattle.receiver.proofs.frame.after_loss.Tie as tie
 
+lose-requires : tie.Need-lose-requires
+lose-requires c κs = search needs
+
+settle-requires : tie.Need-settle-requires
+settle-requires c κs = search needs
+
 returns : tie.Need-returns
 unfolding lossOf
-returns c = ⊎-elim (λ w. rw (w .1, w .0 .taken)) (λ w. rw (w .1, w .0 .left)) (c .before .before .before .before .if1 .came)
+returns c =
+    let d = c .before .before .before .before .before .before in
+    rw (d .settle .ensures, d .before .lose .ensures)
 
 pub after-loss-spec : {M : Type 1} → statement M
-after-loss-spec = tie.close (tie.spec returns)
+after-loss-spec = tie.close (tie.spec lose-requires settle-requires returns)

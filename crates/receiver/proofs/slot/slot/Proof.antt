@@ -2,8 +2,9 @@
 use mathlib.Core.Path.{sym, _∙_, ap}
 use native.Mathlib.Omega.{arith}
 use borrow.Author.Tests.{not-true, not-false}
-use Rattle.receiver.specs.State.{accepted}
-use Rattle.receiver.specs.Slot.{Taken, Out, ready, right-length, slot-refused, slot-wrong-length, slot-not-own, slot-own}
+use Rattle.receiver.specs.State.{accepted, withIntake}
+use Rattle.intake.specs.Slot.{Out}
+use Rattle.receiver.specs.Slot.{Out as CallOut, ready, right-length, slot-refused, slot-wrong-length, slot-not-own, slot-own}
 use borrow.Author.Needs.{needs}
 use Rattle.receiver.proofs.slot.slot.Statement.{statement}
 use Rattle.receiver.proofs.slot.slot.Tie as tie
@@ -64,27 +65,31 @@ element-copy-out-pointers c =
     let d = c .before .before .before .before .before .before .before .before in
     ready _ _ _ (sym (d .before .refusal .ensures) ∙ d .if1 .left) .due
 
-take-own-requires : tie.Need-take-own-requires
-take-own-requires c κs =
-    let w = c .before .before .before .before .before in
+take-requires : tie.Need-take-requires
+take-requires c κs =
+    let w = c .before .before .before .before .before .before in
     let d = w .before .before .before .before .before in
     let z = sym (d .before .refusal .ensures) ∙ d .if1 .left in
     let l = sym (w .before .is-wrong .ensures) ∙ w .if2 .left in
     (ready _ _ _ z .packets, right-length _ _ l .0)
+
+settle-requires : tie.Need-settle-requires
+settle-requires c κs = search needs
 
 same-length : tie.Need-same-length
 same-length c = search needs
 
 returns-4 : tie.Need-returns-4
 returns-4 c =
-    let o = c .before .before .before .before .before in
+    let o = c .before .before .before .before .before .before .before in
     let w = o .before .before .before in
     let d = w .before .before .before .before .before in
     let z = sym (d .before .refusal .ensures) ∙ d .if1 .left in
     let l = sym (w .before .is-wrong .ensures) ∙ w .if2 .left in
-    let f : Taken → Out = λ q. (accepted (q .0), q .1) in
-    ap f (rw (o .before .before .count .ensures) at (c .before .before .take-own .ensures))
-    ∙ sym (slot-own _ _ _ _ z l (not-false _ (o .if3 .left)))
+    let n = o .before .before .count .ensures in
+    let f : Out → CallOut = λ q. (accepted (withIntake (o .before .before .count .result) (q .0)), q .1) in
+    rw (c .settle .ensures)
+    (ap f (c .before .before .before .take .ensures) ∙ rw n (sym (slot-own _ _ _ _ z l (not-false _ (o .if3 .left)))))
 
 pub slot-spec : {M : Type 1} → statement M
 slot-spec =
@@ -101,6 +106,7 @@ slot-spec =
     returns-3
     mul-pointers
     element-copy-out-pointers
-    take-own-requires
+    take-requires
+    settle-requires
     same-length
     returns-4)

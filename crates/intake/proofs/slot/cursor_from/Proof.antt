@@ -1,9 +1,9 @@
 -- Why cursor_from meets its contract: by whether there is a top pointer.
 use borrow.Author.Tests.{eq-eqb, ne-eqb}
-use Rattle.receiver.specs.Slot.{cursorFrom}
+use Rattle.intake.specs.Slot.{cursorFrom}
 use borrow.Author.Needs.{needs}
-use Rattle.receiver.proofs.slot.cursor_from.Statement.{statement}
-use Rattle.receiver.proofs.slot.cursor_from.Tie as tie
+use Rattle.intake.proofs.slot.cursor_from.Statement.{statement}
+use Rattle.intake.proofs.slot.cursor_from.Tie as tie
 
 returns : tie.Need-returns
 unfolding cursorFrom

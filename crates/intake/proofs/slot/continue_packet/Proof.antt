@@ -1,10 +1,10 @@
 -- Why continue_packet meets its contract: the held bytes, then the first k bytes of the slot.
 use mathlib.Core.Path.{_∙_}
-use Rattle.receiver.specs.Slot.{continuedMem}
-use Rattle.receiver.proofs.SlotLaws.{pasted-part}
+use Rattle.intake.specs.Slot.{continuedMem}
+use Rattle.intake.proofs.SlotLaws.{pasted-part}
 use borrow.Author.Needs.{needs}
-use Rattle.receiver.proofs.slot.continue_packet.Statement.{statement}
-use Rattle.receiver.proofs.slot.continue_packet.Tie as tie
+use Rattle.intake.proofs.slot.continue_packet.Statement.{statement}
+use Rattle.intake.proofs.slot.continue_packet.Tie as tie
 
 move-held-requires : tie.Need-move-held-requires
 move-held-requires c κs = search needs

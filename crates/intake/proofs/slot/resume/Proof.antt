@@ -1,8 +1,8 @@
 -- Why resume meets its contract: the part that is held goes on.
 use mathlib.Core.Path.{_∙_}
 use borrow.Author.Needs.{needs}
-use Rattle.receiver.proofs.slot.resume.Statement.{statement}
-use Rattle.receiver.proofs.slot.resume.Tie as tie
+use Rattle.intake.proofs.slot.resume.Statement.{statement}
+use Rattle.intake.proofs.slot.resume.Tie as tie
 
 part-requires : tie.Need-part-requires
 part-requires c κs = search needs

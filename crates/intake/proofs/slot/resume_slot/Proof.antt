@@ -4,32 +4,32 @@ use mathlib.Core.Path.{sym, _∙_}
 use native.Mathlib.Omega.{arith}
 use denote.Ref.{now}
 use lib.ListN.{length}
-use Rattle.receiver.specs.Slot.{heldLen, resumedState, resumedMem, resumed}
-use Rattle.receiver.proofs.SlotLaws.{held-fits, ends-room, goes-on-room}
+use Rattle.intake.specs.Slot.{heldLen, resumedAs, resumedMem, resumed}
+use Rattle.intake.proofs.SlotLaws.{held-fits, ends-room, goes-on-room}
 use borrow.Author.Needs.{needs}
-use Rattle.receiver.proofs.slot.resume_slot.Statement.{statement}
-use Rattle.receiver.proofs.slot.resume_slot.Tie as tie
+use Rattle.intake.proofs.slot.resume_slot.Statement.{statement}
+use Rattle.intake.proofs.slot.resume_slot.Tie as tie
 
 -- what continues the held packet is in the slot, and fits behind the held bytes
 ends : (c : tie.After-known-told)
-    → let a = c .before .before .before .before .before .before .before .before .before .before .args in
-    let k = c .before .c .given .0 .0 in
-    (k ≤ length (now (a .bytes))) × (heldLen (a .st .held) (now (a .packet)) + k ≤ length (now (a .packet)))
-ends c =
-    let s = c .before .before .before .before .before .before .before .before .before .before in
-    let a = s .args in
-    let r = ends-room _ _ _ _ _ (s .pre .2) (sym (c .before .before .before .resume .ensures) ∙ c .before .c .given .1) in
-    (r .within, held-fits (a .st .held) (now (a .packet)) (now (a .bytes)) _ (omega (arith, s .pre .0)) r)
-
-goes-on : (c : tie.After-enum-told3)
     → let a = c .before .before .before .before .before .before .before .before .before .args in
-    let k = length (now (a .bytes)) in
-    (k ≤ length (now (a .bytes))) × (heldLen (a .st .held) (now (a .packet)) + k ≤ length (now (a .packet)))
-goes-on c =
+    let k = c .before .c .given .0 .0 in
+    (k ≤ length (now (a .bytes))) × (heldLen (a .held) (now (a .packet)) + k ≤ length (now (a .packet)))
+ends c =
     let s = c .before .before .before .before .before .before .before .before .before in
     let a = s .args in
+    let r = ends-room _ _ _ _ _ (s .pre .2) (sym (c .before .before .before .resume .ensures) ∙ c .before .c .given .1) in
+    (r .within, held-fits (a .held) (now (a .packet)) (now (a .bytes)) _ (omega (arith, s .pre .0)) r)
+
+goes-on : (c : tie.After-enum-told3)
+    → let a = c .before .before .before .before .before .before .before .before .args in
+    let k = length (now (a .bytes)) in
+    (k ≤ length (now (a .bytes))) × (heldLen (a .held) (now (a .packet)) + k ≤ length (now (a .packet)))
+goes-on c =
+    let s = c .before .before .before .before .before .before .before .before in
+    let a = s .args in
     let r = goes-on-room _ _ _ _ (sym (c .before .before .resume .ensures) ∙ c .enum-told3 .given .1) in
-    (r .within, held-fits (a .st .held) (now (a .packet)) (now (a .bytes)) _ (omega (arith, s .pre .0)) r)
+    (r .within, held-fits (a .held) (now (a .packet)) (now (a .bytes)) _ (omega (arith, s .pre .0)) r)
 
 held-len-requires : tie.Need-held-len-requires
 held-len-requires c κs = search needs
@@ -59,7 +59,7 @@ end-packet-requires : tie.Need-end-packet-requires
 end-packet-requires c κs =
     let d = c .before .before .before .before in
     let s = d .before .before .before .before .before in
-    (omega (arith, s .held-len .ensures, ends d .1), s .before .before .before .before .before .pre .1)
+    (omega (arith, s .held-len .ensures, ends d .1), s .before .before .before .before .pre .1)
 
 enum-told-3 : tie.Need-enum-told-3
 enum-told-3 c = search needs
@@ -76,7 +76,7 @@ same-length : tie.Need-same-length
 same-length c = search needs
 
 returns : tie.Need-returns
-unfolding resumedState resumedMem
+unfolding resumedAs resumedMem
 returns c =
     let e = sym (c .before .before .before .resume .ensures) ∙ c .before .enum-told .given .1 in
     rw (c .read-from .ensures) (sym (resumed _ _ _ _ _ e))
@@ -85,7 +85,7 @@ same-length-2 : tie.Need-same-length-2
 same-length-2 c = search needs
 
 returns-2 : tie.Need-returns-2
-unfolding resumedState resumedMem
+unfolding resumedAs resumedMem
 returns-2 c =
     let e = sym (c .before .before .before .resume .ensures) ∙ c .before .enum-told2 .given .1 in
     rw (c .read-from2 .ensures) (sym (resumed _ _ _ _ _ e))
@@ -105,7 +105,7 @@ same-length-4 : tie.Need-same-length-4
 same-length-4 c = search needs
 
 returns-4 : tie.Need-returns-4
-unfolding resumedState resumedMem
+unfolding resumedAs resumedMem
 returns-4 c =
     let d = c .before .before .before .before .before in
     let n = d .before .before .before .before .held-len .ensures in

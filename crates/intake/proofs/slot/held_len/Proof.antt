@@ -1,7 +1,7 @@
 -- Why held_len meets its contract: the part that is held.
 use borrow.Author.Needs.{needs}
-use Rattle.receiver.proofs.slot.held_len.Statement.{statement}
-use Rattle.receiver.proofs.slot.held_len.Tie as tie
+use Rattle.intake.proofs.slot.held_len.Statement.{statement}
+use Rattle.intake.proofs.slot.held_len.Tie as tie
 
 part-requires : tie.Need-part-requires
 part-requires c κs = search needs

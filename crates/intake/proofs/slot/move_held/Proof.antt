@@ -3,11 +3,11 @@ use mathlib.Core.Path.{sym, _∙_}
 use native.Mathlib.Omega.{arith}
 use denote.Ref.{now}
 use Rattle.wire.specs.Memory.{pasted-zero}
-use Rattle.receiver.specs.Slot.{movedMem}
-use Rattle.receiver.proofs.SlotLaws.{part-room}
+use Rattle.intake.specs.Slot.{movedMem}
+use Rattle.intake.proofs.SlotLaws.{part-room}
 use borrow.Author.Needs.{needs}
-use Rattle.receiver.proofs.slot.move_held.Statement.{statement}
-use Rattle.receiver.proofs.slot.move_held.Tie as tie
+use Rattle.intake.proofs.slot.move_held.Statement.{statement}
+use Rattle.intake.proofs.slot.move_held.Tie as tie
 
 held-len-requires : tie.Need-held-len-requires
 held-len-requires c κs = search needs

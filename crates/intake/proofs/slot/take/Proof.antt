@@ -1,11 +1,11 @@
--- Why take_own meets its contract: each return is one case of the definition.
+-- Why take meets its contract: each return is one case of the definition.
 use mathlib.Core.Path.{sym, _∙_, ap}
 use denote.Ref.{now}
 use borrow.Author.Tests.{not-true, not-false}
-use Rattle.receiver.specs.Slot.{Taken, copied, own-unsound, own-searching, own-held}
+use Rattle.intake.specs.Slot.{Out, copied, taken-unsound, taken-searching, taken-held}
 use borrow.Author.Needs.{needs}
-use Rattle.receiver.proofs.slot.take_own.Statement.{statement}
-use Rattle.receiver.proofs.slot.take_own.Tie as tie
+use Rattle.intake.proofs.slot.take.Statement.{statement}
+use Rattle.intake.proofs.slot.take.Tie as tie
 
 is-sound-requires : tie.Need-is-sound-requires
 is-sound-requires c κs = search needs
@@ -24,12 +24,12 @@ unfolding copied
 returns c =
     let d = c .before .before .before .before .before in
     let s = sym (d .before .is-sound .ensures) ∙ not-true _ (d .if1 .taken) in
-    rw (c .mark-unsound .ensures, c .before .before .before .copy-at .ensures) (sym (own-unsound _ _ _ _ s))
+    rw (c .mark-unsound .ensures, c .before .before .before .copy-at .ensures) (sym (taken-unsound _ _ _ _ s))
 
 resume-slot-requires : tie.Need-resume-slot-requires
 resume-slot-requires c κs =
     let d = c .before .before in
-    let p = d .before .before .before .before .before .pre in
+    let p = d .before .before .before .before .pre in
     (p .0, p .1, sym (d .before .is-sound .ensures) ∙ not-false _ (d .if1 .left))
 
 copy-at-requires-2 : tie.Need-copy-at-requires-2
@@ -43,10 +43,10 @@ unfolding copied
 returns-2 c =
     let d = c .before .before .before .before .before .before .before .before in
     let s = sym (d .before .before .is-sound .ensures) ∙ not-false _ (d .before .if1 .left) in
-    let b = now (d .before .before .before .before .before .before .args .bytes) in
+    let b = now (d .before .before .before .before .before .args .bytes) in
     rw (c .before .before .copy-at2 .ensures)
-    (ap (λ (q : Taken). (q .0, copied (q .1) b)) (c .before .before .before .before .before .before .resume-slot .ensures)
-    ∙ sym (own-held _ _ _ _ s (d .if2 .taken)))
+    (ap (λ (q : Out). (q .0, copied (q .1) b)) (c .before .before .before .before .before .before .resume-slot .ensures)
+    ∙ sym (taken-held _ _ _ _ s (d .if2 .taken)))
 
 copy-at-requires-3 : tie.Need-copy-at-requires-3
 copy-at-requires-3 c κs = search needs
@@ -62,10 +62,10 @@ unfolding copied
 returns-3 c =
     let d = c .before .before .before .before .before in
     let s = sym (d .before .before .is-sound .ensures) ∙ not-false _ (d .before .if1 .left) in
-    rw (c .read-from .ensures, c .before .before .before .copy-at3 .ensures) (sym (own-searching _ _ _ _ s (d .if2 .left)))
+    rw (c .read-from .ensures, c .before .before .before .copy-at3 .ensures) (sym (taken-searching _ _ _ _ s (d .if2 .left)))
 
-pub take-own-spec : {M : Type 1} → statement M
-take-own-spec =
+pub take-spec : {M : Type 1} → statement M
+take-spec =
     tie.close
     (tie.spec
     is-sound-requires

@@ -1,4 +1,4 @@
--- What a slot leaves of packet memory: a held packet with what continues it fits, and every length stays.
+-- What continues a held packet fits behind it in packet memory.
 use Prim.Native.Nat.{ℕ, _+_, _-_, _<_, _≤_}
 use mathlib.Core.Path.{_≡_, refl, sym, _∙_}
 use mathlib.Core.Bool.{Bool, true, false, cond}
@@ -9,15 +9,12 @@ use lib.ListN.{length, take, drop, length-take, length-drop}
 use lib.Seq.{take-take}
 use lib.Dec.{eqb, ltb, leb}
 use borrow.Author.Tests.{eqb-true, eqb-false, ltb-true, ltb-false}
-use Rattle.wire.specs.Memory.{partOf, pasted, length-pasted}
-use Rattle.tmcc.specs.declared.layout.Pointers.{Pointers}
-use Rattle.tlv.specs.declared.held.Continuation.{Continuation}
+use Rattle.wire.specs.Memory.{partOf, pasted}
 use Rattle.tlv.specs.declared.held.Continuation.the-variants.{TooLong, Misfit, Ends, GoesOn}
 use Rattle.tlv.specs.Slot.{none, sound, unsound-outside}
 use Rattle.tlv.specs.Held.{endWithin, endBeyond, heldTotal, heldEnd, continuationOf}
-use Rattle.receiver.specs.declared.state.Held.{Held}
-use Rattle.receiver.specs.declared.state.State.{State}
-use Rattle.receiver.specs.Slot.{heldBytes, heldLen, movedMem, continuedMem, resumedMem, resumedOf, resumed, copied, ownOf, own-unsound, own-searching, own-held, counted, dueLength, dueOwn, duePointers, refusalOf, ready, wrongLength, right-length, slotOf, slot-refused, slot-wrong-length, slot-not-own, slot-own}
+use Rattle.intake.specs.declared.held.Held.{Held}
+use Rattle.intake.specs.Slot.{heldBytes, heldLen}
 
 -- two constructors differ, and so do the two truth values
 differ : {A : Type 0} → _≡_ {A = ℕ} 0 1 → A
@@ -139,66 +136,3 @@ module _ (h d : List ℕ) (t l : ℕ) where
 -- behind held bytes that stand in the memory itself
 pub held-fits : (h : Held) (p d : List ℕ) (k : ℕ) → 16384 ≤ length p → Room (heldBytes h p) d k → heldLen h p + k ≤ length p
 held-fits h p d k l r = let o = part-room p (h .start) (h .len) in r .fits (length p) (omega arith) l
-
--- packet memory keeps its length
-pub length-moved : (h : Held) (p : List ℕ) → length (movedMem h p) ≡ length p
-unfolding movedMem
-length-moved h p =
-    let r = part-room p (h .start) (h .len) in
-    length-pasted p 0 (drop (h .start) p) (heldLen h p) (omega arith) (simp length-drop (omega arith))
-
-pub length-continued : (h : Held) (p d : List ℕ) (k : ℕ) → 16384 ≤ length p → Room (heldBytes h p) d k
-    → length (continuedMem h p d k) ≡ length p
-unfolding continuedMem
-length-continued h p d k l r =
-    let n = length-moved h p in
-    let f = held-fits h p d k l r in
-    length-pasted (movedMem h p) (heldLen h p) d k (omega arith) (r .within) ∙ n
-
-pub length-copied : (p d : List ℕ) → 16384 + length d ≤ length p → length (copied p d) ≡ length p
-unfolding copied
-length-copied p d h = length-pasted p 16384 d (length d) h (omega arith)
-
-module _ (st : State) (p d : List ℕ) (t : Pointers) where
-  pub length-resumed : 16384 ≤ length p → sound d (t .0) (t .1) ≡ true → length (resumedOf st p d t .1) ≡ length p
-  unfolding resumedMem
-  length-resumed l s = go (continuationOf h d (t .0) (t .1)) refl
-    where
-      h : List ℕ
-      h = heldBytes (st .held) p
-
-      go : (k : Continuation) → continuationOf (heldBytes (st .held) p) d (t .0) (t .1) ≡ k
-          → length (resumedOf st p d t .1) ≡ length p
-      go TooLong e = rw (resumed st p d t TooLong e)
-      go Misfit e = rw (resumed st p d t Misfit e)
-      go (Ends x) e =
-          let r = ends-room h d (t .0) (t .1) x s e in
-          rw (resumed st p d t (Ends x) e) (length-continued (st .held) p d x l r)
-      go GoesOn e =
-          let r = goes-on-room h d (t .0) (t .1) e in
-          rw (resumed st p d t GoesOn e) (length-continued (st .held) p d (length d) l r)
-
-  pub length-own : 21433 ≤ length p → length d ≤ 5049 → length (ownOf st p d t .1) ≡ length p
-  length-own l m = go (sound d (t .0) (t .1)) (st .held .on) refl refl
-    where
-      go : (a b : Bool) → sound d (t .0) (t .1) ≡ a → st .held .on ≡ b → length (ownOf st p d t .1) ≡ length p
-      go false b s o = rw (own-unsound st p d t s) (length-copied p d (omega arith))
-      go true false s o = rw (own-searching st p d t s o) (length-copied p d (omega arith))
-      go true true s o =
-          let r = length-resumed (omega arith) s in
-          rw (own-held st p d t s o) (length-copied (resumedOf st p d t .1) d (omega arith) ∙ r)
-
-pub length-slot : (st : State) (p c d : List ℕ) → length (slotOf st p c d .1) ≡ length p
-length-slot st p c d = go (eqb r 0) (wrongLength (dueLength st) (length d)) (dueOwn st) refl refl refl
-  where
-    r : ℕ
-    r = refusalOf st (length p) (length c)
-
-    go : (a b o : Bool) → eqb (refusalOf st (length p) (length c)) 0 ≡ a → wrongLength (dueLength st) (length d) ≡ b
-        → dueOwn st ≡ o → length (slotOf st p c d .1) ≡ length p
-    go false b o z w e = rw (slot-refused st p c d (eqb-false _ _ z))
-    go true true o z w e = rw (slot-wrong-length st p c d (eqb-true _ _ z) w)
-    go true false false z w e = rw (slot-not-own st p c d (eqb-true _ _ z) w e)
-    go true false true z w e =
-        let m = ready st (length p) (length c) (eqb-true _ _ z) .packets in
-        rw (slot-own st p c d (eqb-true _ _ z) w e) (length-own (counted st) p d (duePointers st) m (right-length _ _ w .0))

@@ -1,0 +1,2 @@
+-- What is proved of slots beside the code.
+pub mod SlotLaws
