@@ -17,8 +17,7 @@ use Rattle.delivery.specs.declared.event.Event.the-variants.{Note}
 use Rattle.delivery.specs.declared.cursor.Found.the-variants.{Event, Packet, Tail, Done}
 use Rattle.intake.specs.declared.held.Cursor.{Cursor}
 use Rattle.intake.specs.declared.held.Held.{Held}
-use Rattle.intake.specs.Slot.{holding}
-use Rattle.intake.specs.Slot.{noted}
+use Rattle.intake.specs.Slot.{holding, noted}
 use Rattle.delivery.specs.Cursor.{tailAdvanced, slotAdvanced, advancedOf, left}
 use Rattle.broadcast.specs.Pending.{Found, slot-notes, a-packet, some-if, slotPending, heldAfter, cursorPending, cursorLeaves}
 use Rattle.broadcast.specs.SlotClaims.{CursorGood, Advances, Advance}

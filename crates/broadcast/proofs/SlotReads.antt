@@ -23,12 +23,10 @@ use Rattle.tlv.proofs.Runs.{step-given}
 use Rattle.intake.specs.declared.held.Cursor.{Cursor}
 use Rattle.intake.specs.declared.held.Held.{Held}
 use Rattle.receiver.specs.declared.state.State.{State}
-use Rattle.intake.specs.Slot.{searching, holding}
-use Rattle.receiver.specs.State.{withSlot}
-use Rattle.intake.specs.Slot.{noted}
+use Rattle.intake.specs.Slot.{searching, holding, noted, slotArea, cursorFrom, heldBytes, packetEnd, resumedAs, continuedMem, resumedMem, copied, resumedOf, takenBy, takenOf, lostOf}
+use Rattle.receiver.specs.State.{withSlot, withIntake}
 use Rattle.receiver.specs.Frame.{lossOf}
-use Rattle.receiver.specs.Slot.{counted, resumedState, ownBy, ownOf}
-use Rattle.intake.specs.Slot.{slotArea, cursorFrom, heldBytes, packetEnd, continuedMem, resumedMem, copied, resumedOf}
+use Rattle.receiver.specs.Slot.{counted, ownOf}
 use Rattle.broadcast.specs.Drains.{HeldIs}
 use Rattle.broadcast.specs.Pending.{Found, slot-notes, a-packet, bare, some-if, cursorPending, cursorLeaves}
 use Rattle.broadcast.specs.SlotClaims.{Short, CursorGood, Same, Reads, slotFrom, OwnSlot, LostSlot, LostFrame}
@@ -222,9 +220,9 @@ module _ {A : Type 0} (a : A) (st : State) (p d : List ℕ) (top last : ℕ) (ow
 
   module _ (inside : st .held .start + st .held .len ≤ length p) (ls : List A) where
     resumed-reads : (k : Continuation) (b : Bool) → eqb top none ≡ b → (b ≡ false → top < length d) → Fits k bytes d
-        → Reads st (st .frame) p (resumedState k st (length bytes) top (length d), copied (resumedMem k (st .held) p d) d)
+        → Reads st (st .frame) p (withIntake st (resumedAs k (length bytes) top (length d)), copied (resumedMem k (st .held) p d) d)
         (resumed k b ls bytes a (slotOf d top last))
-    unfolding resumedState resumedMem resumed
+    unfolding resumedAs resumedMem resumed
     resumed-reads TooLong b z t f =
         made st p owed _ _ _ _ (length-copied p d room)
         (from-same a d top last small p room b z t 43 0 (omega arith) (note 43 ∷ []) refl)
@@ -243,7 +241,7 @@ module _ {A : Type 0} (a : A) (st : State) (p d : List ℕ) (top last : ℕ) (ow
 module _ {A : Type 0} (a : A) (st : State) (p d : List ℕ) (t : Pointers) (owed : st .owed ≡ true) (small : length d ≤ slotArea)
     (room : slotArea + length d ≤ length p) where
   abbrev Own : Bool → Bool → Stepped A → Type 0
-  Own b on w = let r = ownBy b on st p d t in Reads st (st .frame) p (r .0, copied (r .1) d) w
+  Own b on w = let r = takenBy b on (st .held) p d t in Reads st (st .frame) p (withIntake st (r .0), copied (r .1) d) w
 
   held-reads : (ls : List A) → st .held .start + st .held .len ≤ length p → length (heldBytes (st .held) p) ≤ slotArea
       → (eqb (t .0) none ≡ false → t .0 < length d)
@@ -270,7 +268,7 @@ module _ {A : Type 0} (a : A) (st : State) (p d : List ℕ) (t : Pointers) (owed
 
   own-reads : (tl : Slot-state A) → HeldIs (st .held) p tl → Short tl
       → Reads st (st .frame) p (ownOf st p d t) (step tl (given a (slotFrom d t)))
-  unfolding ownOf
+  unfolding takenOf
   own-reads tl h l = rw (step-given tl a (slotFrom d t)) (own-by (sound d (t .0) (t .1)) refl tl h l)
 
 -- a lost slot
@@ -284,7 +282,7 @@ module _ {A : Type 0} (st : State) (p : List ℕ) where
   loss-by (held ls b) false e h = absurd (true≢false (sym (h .0) ∙ e))
 
   loss-reads : (tl : Slot-state A) → HeldIs (st .held) p tl → Reads st (st .frame) p (lossOf st, p) (step tl lost)
-  unfolding lossOf
+  unfolding lossOf lostOf
   loss-reads tl h =
       record {
         slot = loss-by tl (st .held .on) refl h;

@@ -16,9 +16,8 @@ use Rattle.delivery.specs.declared.event.Event.the-variants.{Nothing, Note, Uni
 use Rattle.delivery.specs.declared.event.Given.{Given}
 use Rattle.intake.specs.declared.held.Held.{Held}
 use Rattle.receiver.specs.declared.state.State.{State}
-use Rattle.intake.specs.Slot.{noted}
+use Rattle.intake.specs.Slot.{noted, heldBytes}
 use Rattle.delivery.specs.Queue.{empty}
-use Rattle.intake.specs.Slot.{heldBytes}
 use Rattle.receiver.specs.Next.{nextOf}
 use Rattle.receiver.specs.Show.{showOf}
 

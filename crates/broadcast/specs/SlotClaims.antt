@@ -18,12 +18,10 @@ use Rattle.intake.specs.declared.held.Cursor.{Cursor}
 use Rattle.receiver.specs.declared.state.Frame.{Frame}
 use Rattle.intake.specs.declared.held.Held.{Held}
 use Rattle.receiver.specs.declared.state.State.{State}
-use Rattle.intake.specs.Slot.{searching, holding}
-use Rattle.intake.specs.Slot.{noted}
+use Rattle.intake.specs.Slot.{searching, holding, noted, slotArea}
 use Rattle.delivery.specs.Cursor.{advancedOf, left}
 use Rattle.receiver.specs.Frame.{lossOf}
 use Rattle.receiver.specs.Slot.{counted, ownOf}
-use Rattle.intake.specs.Slot.{slotArea}
 use Rattle.broadcast.specs.Drains.{HeldIs, Tracks}
 use Rattle.broadcast.specs.Pending.{slot-notes, a-packet, bare, cursorPending, cursorLeaves}
 
