@@ -125,6 +125,24 @@ module _ {A : Type 0} (cfg : Config) (fr : Frame) (p : List ℕ)
         lines = λ i h. rw k (l .lines i h);
       }
 
+  -- what is owed with another queue
+  requeued : {es es' : List Shown} (st : State) (c : List ℕ) (q : Queue) (o : Owes cfg fr p es tl f st c) → QueueGood q p
+      → es' ≡ queuePending q p c ++ map strip (events cfg (o .now) (o .waiting)) → Owes cfg fr p es' tl f (withQueue st q) c
+  requeued st c q o g e =
+      record {
+        waiting = o .waiting;
+        now = o .now;
+        lines = relined (o .lines) refl refl;
+        frame = o .frame;
+        owed = o .owed;
+        queue-good = g;
+        cursor-good = o .cursor-good;
+        finds = o .finds;
+        shows = e;
+        leaves = o .leaves;
+        ends = o .ends;
+      }
+
   -- the events from a packet on
   abbrev eventsBehind : Read → (ℕ → Line (List A)) → List A → List (Slot-event A) → List (Account-event (List A))
   eventsBehind r g a ws = let y = afterRead cfg r g a in y .events ++ events cfg (y .lines) ws
@@ -234,57 +252,20 @@ module _ {A : Type 0} (cfg : Config) (fr : Frame) (p : List ℕ)
         → (let t = turnBy e q (st .cursor) p in ToldOut es (onwards (t .found) (past st t) p c more))
     taken-told Nothing es st c q h o t g =
         let st' = withQueue st q in
-        let o' : Owes cfg fr p es tl f st' c =
-        record {
-          waiting = o .waiting;
-          now = o .now;
-          lines = relined (o .lines) refl refl;
-          frame = o .frame;
-          owed = o .owed;
-          queue-good = g;
-          cursor-good = o .cursor-good;
-          finds = o .finds;
-          shows = waits o (t .0) ∙ rw (t .1);
-          leaves = o .leaves;
-          ends = o .ends;
-        } in
+        let o' = requeued st c q o g (waits o (t .0) ∙ rw (t .1)) in
         let a = advancedOf (st .cursor) p in
         found-told (a .found) es st' c (a .cursor) h o' (t .2) (t .1) (advance (st .cursor) (st .held) p (o .cursor-good))
     taken-told (Note k id) es st c q h o t g =
         record {
           later = queuePending q p c ++ map strip (events cfg (o .now) (o .waiting));
           first = o .shows ∙ ap (λ (l : List Shown). l ++ map strip (events cfg (o .now) (o .waiting))) t;
-          owes = record {
-            waiting = o .waiting;
-            now = o .now;
-            lines = relined (o .lines) refl refl;
-            frame = o .frame;
-            owed = o .owed;
-            queue-good = g;
-            cursor-good = o .cursor-good;
-            finds = o .finds;
-            shows = refl;
-            leaves = o .leaves;
-            ends = o .ends;
-          };
+          owes = requeued st c q o g refl;
         }
     taken-told (Unit u) es st c q h o t g =
         record {
           later = queuePending q p c ++ map strip (events cfg (o .now) (o .waiting));
           first = o .shows ∙ ap (λ (l : List Shown). l ++ map strip (events cfg (o .now) (o .waiting))) t;
-          owes = record {
-            waiting = o .waiting;
-            now = o .now;
-            lines = relined (o .lines) refl refl;
-            frame = o .frame;
-            owed = o .owed;
-            queue-good = g;
-            cursor-good = o .cursor-good;
-            finds = o .finds;
-            shows = refl;
-            leaves = o .leaves;
-            ends = o .ends;
-          };
+          owes = requeued st c q o g refl;
         }
     taken-told (Refused k) es st c q h o t g = absurd t
 

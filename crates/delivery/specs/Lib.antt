@@ -4,3 +4,4 @@ pub mod Packet
 pub mod Within
 pub mod Queue
 pub mod Cursor
+pub mod Examples

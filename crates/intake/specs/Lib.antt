@@ -1,2 +1,3 @@
 -- The definitions of intake.
 pub mod Slot
+pub mod Examples

@@ -2,7 +2,7 @@
 use Prim.Native.Nat.{ℕ, _<_, _≤_}
 use mathlib.Core.Bool.{Bool, true, false, cond, _||_, or-true}
 use mathlib.Core.List.{List}
-use mathlib.Core.Path.{_≡_}
+use mathlib.Core.Path.{_≡_, refl}
 use borrow.Author.Tests.{lt-ltb, le-ltb, eq-eqb, ne-eqb, ltb-false}
 use lib.ListN.{length}
 use lib.Dec.{eqb, ltb}
@@ -33,6 +33,11 @@ lossOf st = withOwed (withIntake st (lostOf (st .held))) true
 -- "its 120 slots all lost, together read as one lost own slot"
 unfoldable pub lostFrameOf : State → Called
 lostFrameOf st = cond (frameBusy st) (refused 11 st) (accepted (lossOf st))
+
+-- a loss by itself condemns no unit
+pub loss-channels : (st : State) → lossOf st .channels ≡ st .channels
+unfolding lossOf
+loss-channels st = refl
 
 -- busy, and not
 module _ (st : State) where

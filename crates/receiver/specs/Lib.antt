@@ -7,3 +7,4 @@ pub mod Slot
 pub mod Next
 pub mod ReadOn
 pub mod Show
+pub mod Examples
