@@ -1,0 +1,3 @@
+-- The round trip of units through the packer, the slot cutter and a fresh receiver.
+pub mod Sending
+pub mod RoundTrip

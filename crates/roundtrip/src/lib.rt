@@ -1,0 +1,1 @@
+// The round trip: no code, the theorem alone.
