@@ -1,0 +1,4 @@
+-- What is proved of the cutter beside its code.
+pub mod Places
+pub mod Packets
+pub mod Table

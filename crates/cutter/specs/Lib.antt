@@ -1,0 +1,3 @@
+-- The definition of the slot cutter.
+pub mod Pointers
+pub mod Slot
