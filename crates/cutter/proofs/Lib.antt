@@ -2,3 +2,6 @@
 pub mod Places
 pub mod Packets
 pub mod Table
+pub mod Splits
+pub mod Reaches
+pub mod Sound

@@ -2,15 +2,38 @@
 use Prim.Native.Nat.{ℕ, _+_, _-_, _≤_, _<_}
 use mathlib.Core.Path.{_≡_, refl}
 use mathlib.Core.Bool.{Bool, true, false, cond, and-eq-true-iff}
-use mathlib.Core.List.{List, [], _∷_}
+use mathlib.Core.List.{List, [], _∷_, _++_}
+use native.Mathlib.Nat.{add-zero, add-assoc}
 use native.Mathlib.Omega.{arith}
-use lib.ListN.{length}
+use lib.ListN.{length, length-append}
 use lib.Dec.{eqb, leb, ltb}
 use borrow.Author.Tests.{le-leb, lt-leb, lt-ltb, le-ltb, eqb-true, eq-eqb, ne-eqb, leb-true, ltb-true}
-use Rattle.wire.specs.Lists.{put, sift}
-use Rattle.tlv.specs.Cuts.{Sized, AllSized}
-use Rattle.tlv.specs.Slot.{none}
+use Rattle.wire.specs.Lists.{put, sift, sift-append}
+use Rattle.tlv.specs.Cuts.{AllSized, row}
+use Rattle.tlv.specs.Slot.{none, lastPointer}
 use Rattle.cutter.specs.Pointers.{starts, ends, inSlot, endsIn, firstOffset, lastOffset, topWith, lastWith}
+
+-- the places of packets behind others
+pub starts-append : (at : ℕ) (ps qs : List (List ℕ)) → starts at (ps ++ qs) ≡ starts at ps ++ starts (at + length (row ps)) qs
+unfolding starts
+starts-append at [] qs = rw (add-zero at)
+starts-append at (p ∷ ps) qs =
+    rw (length-append p (row ps), ← add-assoc at (length p) (length (row ps)), starts-append (at + length p) ps qs)
+
+pub ends-append : (at : ℕ) (ps qs : List (List ℕ)) → ends at (ps ++ qs) ≡ ends at ps ++ ends (at + length (row ps)) qs
+unfolding ends
+ends-append at [] qs = rw (add-zero at)
+ends-append at (p ∷ ps) qs =
+    rw (length-append p (row ps), ← add-assoc at (length p) (length (row ps)), ends-append (at + length p) ps qs)
+
+offset-append : (from p : ℕ) (xs ys : List ℕ) → lastOffset from p (xs ++ ys) ≡ lastOffset from (lastOffset from p xs) ys
+offset-append from p [] ys = refl
+offset-append from p (x ∷ xs) ys = offset-append from (x - from) xs ys
+
+-- the last pointer of an end that is not the slot's first byte
+pub pointer-end : (end : ℕ) → 0 < end → lastPointer end ≡ end
+unfolding lastPointer
+pointer-end end h = rw (ne-eqb end 0 (omega arith))
 
 module _ (from l : ℕ) where
   -- a byte before the slot, past it, and in it
@@ -116,3 +139,44 @@ module _ (from l : ℕ) where
 
   pub last-done : (last at : ℕ) (ps : List (List ℕ)) → AllSized ps → from + l ≤ at → lastFrom last at ps ≡ last
   last-done last at ps z h = rw (ends-past at ps z h)
+
+  -- packets before the slot
+  pub starts-before : (at : ℕ) (ps : List (List ℕ)) → AllSized ps → at + length (row ps) ≤ from
+      → sift (inSlot from l) (starts at ps) ≡ []
+  unfolding starts
+  starts-before at [] z h = refl
+  starts-before at (p ∷ ps) z h =
+      let e = length-append p (row ps) in
+      rw (in-before at (omega (arith, z .0 .long)), starts-before (at + length p) ps (z .1) (omega arith))
+
+  pub ends-before : (at : ℕ) (ps : List (List ℕ)) → AllSized ps → at + length (row ps) ≤ from
+      → sift (endsIn from l) (ends at ps) ≡ []
+  unfolding ends
+  ends-before at [] z h = refl
+  ends-before at (p ∷ ps) z h =
+      let e = length-append p (row ps) in
+      rw (in-before (at + length p - 1) (omega (arith, z .0 .long)), ends-before (at + length p) ps (z .1) (omega arith))
+
+  -- packets in the slot: their end is the last pointer
+  pub last-within : (at : ℕ) (ps : List (List ℕ)) → AllSized ps → from ≤ at → at + length (row ps) ≤ from + l
+      → lastFrom (lastPointer (at - from)) at ps ≡ lastPointer (at + length (row ps) - from)
+  unfolding ends
+  last-within at [] z h k = rw (add-zero at)
+  last-within at (p ∷ ps) z h k =
+      let e = length-append p (row ps) in
+      let n = z .0 .long in
+      let q : at + length p + length (row ps) ≡ at + length (p ++ row ps) = omega arith in
+      rw (in-there (at + length p - 1) (omega arith) (omega arith), ← q)
+      (rw (pointer-end (at + length p - from) (omega arith)) at (last-within (at + length p) ps (z .1) (omega arith) (omega arith)))
+
+  -- packets behind others
+  pub last-append : (last at : ℕ) (ps qs : List (List ℕ))
+      → lastFrom last at (ps ++ qs) ≡ lastFrom (lastFrom last at ps) (at + length (row ps)) qs
+  last-append last at ps qs =
+      rw (ends-append at ps qs, sift-append (endsIn from l) (ends at ps) (ends (at + length (row ps)) qs))
+      (offset-append from last (sift (endsIn from l) (ends at ps)) (sift (endsIn from l) (ends (at + length (row ps)) qs)))
+
+  pub starts-behind : (at : ℕ) (ps qs : List (List ℕ)) → sift (inSlot from l) (starts at ps) ≡ []
+      → sift (inSlot from l) (starts at (ps ++ qs)) ≡ sift (inSlot from l) (starts (at + length (row ps)) qs)
+  starts-behind at ps qs e =
+      rw (starts-append at ps qs, sift-append (inSlot from l) (starts at ps) (starts (at + length (row ps)) qs), e)

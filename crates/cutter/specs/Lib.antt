@@ -1,3 +1,4 @@
--- The definition of the slot cutter.
+-- The definition of the slot cutter, and what is claimed of it.
 pub mod Pointers
 pub mod Slot
+pub mod Claims
