@@ -5,3 +5,5 @@ pub mod Table
 pub mod Splits
 pub mod Reaches
 pub mod Sound
+pub mod Steps
+pub mod Runs

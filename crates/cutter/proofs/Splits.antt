@@ -128,7 +128,7 @@ marked-take (suc m) (x ∷ b) h = h
 
 -- whole packets up to a place: those before the packet that goes over it, and its beginning
 module _ (b : List ℕ) (n : ℕ) (sp : Split b n) where
-  pub begun : List ℕ
+  unfoldable pub begun : List ℕ
   begun = take (n - length (sp .before)) (sp .after)
 
   pub take-split : take n b ≡ sp .before ++ begun
