@@ -1,6 +1,6 @@
 -- Laws of a place of a run from which on it is whole packets: the packet there, and the pointers with it.
 use Prim.Native.Nat.{ℕ, _+_, _-_, _≤_, _<_}
-use mathlib.Core.Path.{_≡_, refl, sym, _∙_, ap}
+use mathlib.Core.Path.{_≡_, refl, ap}
 use mathlib.Core.Bool.{Bool, true, false, and-eq-true-iff}
 use mathlib.Core.List.{List, [], _∷_}
 use native.Mathlib.Omega.{arith}
@@ -80,6 +80,7 @@ module _ (run : List ℕ) (at : ℕ) (h : at < length run) (w : cut (drop at run
         rw packets-here (rw length-first at (top-step from l k top at (take (total here) here) (cut (drop next run) .packets)))
 
     pub last-next : (last : ℕ)
-        → lastFrom from l (lastWith last from l next) next (cut (drop next run) .packets) ≡ lastFrom from l last at (cut here .packets)
+        → lastFrom from l (lastWith last from l next) next (cut (drop next run) .packets)
+        ≡ lastFrom from l last at (cut here .packets)
     last-next last =
         rw packets-here (rw length-first at (last-step from l last at (take (total here) here) (cut (drop next run) .packets)))

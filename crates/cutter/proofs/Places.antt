@@ -110,8 +110,11 @@ module _ (from l : ℕ) where
       rest : List ℕ
       rest = sift (inSlot from l) (starts (at + length p) ps)
 
+      with : Bool → Bool → ℕ
+      with t b = cond t (cond b (at - from) none) top
+
       go : (t b : Bool) → eqb top none ≡ t → inSlot from l at ≡ b
-          → cond (eqb (cond t (cond b (at - from) none) top) none) (firstOffset from none rest) (cond t (cond b (at - from) none) top)
+          → cond (eqb (with t b) none) (firstOffset from none rest) (with t b)
           ≡ cond t (firstOffset from none (put b at rest)) top
       go true true t e =
           let k = in-bounds at e in
@@ -167,7 +170,8 @@ module _ (from l : ℕ) where
       let n = z .0 .long in
       let q : at + length p + length (row ps) ≡ at + length (p ++ row ps) = omega arith in
       rw (in-there (at + length p - 1) (omega arith) (omega arith), ← q)
-      (rw (pointer-end (at + length p - from) (omega arith)) at (last-within (at + length p) ps (z .1) (omega arith) (omega arith)))
+      (rw (pointer-end (at + length p - from) (omega arith)) at
+      (last-within (at + length p) ps (z .1) (omega arith) (omega arith)))
 
   -- packets behind others
   pub last-append : (last at : ℕ) (ps qs : List (List ℕ))

@@ -1,7 +1,7 @@
 -- The packets up to the first that starts in or past a slot: they give the slot no top pointer, and where they end is known.
 use Prim.Native.Nat.{ℕ, _+_, _-_, _≤_, _<_}
 use mathlib.Core.Path.{_≡_, refl, sym, _∙_, ap}
-use mathlib.Core.Bool.{Bool, true, false, cond}
+use mathlib.Core.Bool.{true, cond}
 use mathlib.Core.List.{List, [], _∷_, _++_, append-assoc, append-nil}
 use native.Mathlib.Nat.{zero-add}
 use native.Mathlib.Omega.{arith}
@@ -13,11 +13,11 @@ use Rattle.wire.specs.Lists.{sift}
 use Rattle.tlv.specs.Packet.{total, complete, cut}
 use Rattle.tlv.specs.Cuts.{row, cut-whole, cut-sized, cut-append}
 use Rattle.tlv.specs.Slot.{none, lastPointer}
-use Rattle.cutter.specs.Pointers.{starts, ends, inSlot, endsIn, lastOffset}
+use Rattle.cutter.specs.Pointers.{starts, ends, inSlot}
 use Rattle.cutter.proofs.Places.{in-before, in-past, in-there, lastFrom, starts-before, ends-before}
 use Rattle.cutter.proofs.Places.{starts-behind, last-append, pointer-end}
 use Rattle.cutter.proofs.Packets.{whole-complete}
-use Rattle.cutter.proofs.Splits.{Whole, Split, first-length, cut-first, whole-first, whole-rest, whole-append}
+use Rattle.cutter.proofs.Splits.{Whole, Split, joined-length, first-length, cut-first, whole-first, whole-rest, whole-append}
 
 -- the packets of whole bytes are these bytes
 pub whole-row : (b : List ℕ) → Whole b → row (cut b .packets) ≡ b
@@ -73,7 +73,7 @@ module _ (run : List ℕ) (from l : ℕ) where
     module _ (k : length a < from) where
       goes : complete r ≡ true
       goes =
-          let n : length a + length r ≡ length run = sym (length-append a r) ∙ ap length (sp .joined) in
+          let n = joined-length a r run (sp .joined) in
           whole-complete r (sp .rest .ended) (omega arith)
 
       abbrev q : List ℕ
@@ -125,7 +125,9 @@ module _ (run : List ℕ) (from l : ℕ) where
             reaches = rw (ne-eqb (length a) from (omega arith)) front-length;
             unstarted = q-starts;
             ended =
-                rw packets (last-append from l none 0 (cut a .packets) (q ∷ []) ∙ rw (a-ends, a-row) (q-ends (decLe (length (a ++ q)) (from + l))));
+                rw packets
+                (last-append from l none 0 (cut a .packets) (q ∷ [])
+                ∙ rw (a-ends, a-row) (q-ends (decLe (length (a ++ q)) (from + l))));
           }
 
     pub reach : Reach sp

@@ -1,8 +1,8 @@
 -- Why the slots of a run give no note and exactly its packets: the slot machine holds the run up to each slot's end.
-use Prim.Native.Nat.{ℕ, zero, suc, _+_, _-_, _*_, _≤_, _<_}
+use Prim.Native.Nat.{ℕ, zero, suc, _+_, _*_, _≤_, _<_}
 use mathlib.Core.Path.{_≡_, refl, sym, _∙_, ap}
 use mathlib.Core.Bool.{Bool, true, cond}
-use mathlib.Core.List.{List, [], _∷_, _++_, map, map-map, cons≢nil}
+use mathlib.Core.List.{List, [], _∷_, map, map-map, cons≢nil}
 use native.Mathlib.Nat.{zero-mul, suc-mul, mul-le-mul-right}
 use native.Mathlib.Numerals.{add-one}
 use native.Mathlib.Omega.{arith}
@@ -10,8 +10,8 @@ use lib.ListN.{length, take, drop, length-drop}
 use lib.Seq.{take-add, take-all, drop-drop, length-take-le}
 use lib.Dec.{eqb}
 use Rattle.tlv.specs.Packet.{cut}
-use Rattle.tlv.specs.Slot.{none, sound}
-use Rattle.tlv.specs.Run.{Slot, Labelled, State, searching, given, step, packets, Clean, intact}
+use Rattle.tlv.specs.Slot.{none}
+use Rattle.tlv.specs.Run.{Slot, State, searching, given, step, packets, Clean, intact}
 use Rattle.tlv.specs.Run.{run as events}
 use Rattle.tlv.specs.Row.{bytesOf, allBytes, row, rowPackets}
 use Rattle.tlv.specs.Claims.{Seen, Filled, seen, seenInRow}
@@ -19,7 +19,7 @@ use Rattle.tlv.proofs.Runs.{step-given}
 use Rattle.tlv.proofs.RowCuts.{bytes-tagged, bytes-append, row-cut}
 use Rattle.tlv.proofs.Rows.{run-row}
 use Rattle.cutter.specs.Slot.{slotAt, accepts, slot-cut}
-use Rattle.cutter.specs.Claims.{Fills, slotsFrom, AllShort, CutEach, CutRun}
+use Rattle.cutter.specs.Claims.{slotsFrom, AllShort, CutEach, CutRun}
 use Rattle.cutter.proofs.Packets.{whole-good}
 use Rattle.cutter.proofs.Table.{listed-bounds}
 use Rattle.cutter.proofs.Splits.{Whole, split}

@@ -2,11 +2,11 @@
 use Prim.Native.Nat.{ℕ, _+_, _-_, _*_, _≤_, _<_}
 use mathlib.Core.Path.{_≡_, refl, sym, _∙_, ap}
 use mathlib.Core.Bool.{Bool, true, false, cond, _||_, or-true}
-use mathlib.Core.List.{List, [], _∷_, _++_}
+use mathlib.Core.List.{List, [], _++_}
 use native.Mathlib.Nat.{zero-add}
 use native.Mathlib.Omega.{arith}
 use native.Mathlib.Decide.{decLe}
-use lib.ListN.{length, take, drop, length-append, length-drop}
+use lib.ListN.{length, take, drop, length-drop}
 use lib.Seq.{take-add, drop-at, drop-drop, length-take-le}
 use lib.Dec.{eqb, leb}
 use borrow.Author.Tests.{le-leb, lt-leb, lt-ltb, eq-eqb, ne-eqb, eqb-true}
@@ -15,13 +15,13 @@ use Rattle.tlv.specs.Packet.{total, complete, cut}
 use Rattle.tlv.specs.Cuts.{row, cut-more, cut-end, cut-sized}
 use Rattle.tlv.specs.Slot.{none, endFrom, lastPointer, sound, sound-without-top}
 use Rattle.cutter.specs.declared.slot.CutSlot.{CutSlot}
-use Rattle.cutter.specs.Pointers.{starts, ends, inSlot, endsIn, firstOffset, lastOffset, topOf, lastOf}
+use Rattle.cutter.specs.Pointers.{starts, ends, inSlot, endsIn, firstOffset, topOf, lastOf}
 use Rattle.cutter.specs.Slot.{refusalOf, slotAt, pointed, refused, slotOf, accepted, slot-within, slot-cut}
 use Rattle.cutter.specs.Claims.{CutSound}
 use Rattle.cutter.proofs.Places.{in-past, in-there, lastFrom, starts-past, ends-past}
 use Rattle.cutter.proofs.Places.{starts-behind, last-append, last-within, last-done, pointer-end}
 use Rattle.cutter.proofs.Packets.{whole-good, whole-complete}
-use Rattle.cutter.proofs.Splits.{Whole, Split, split, first-length, joined-packets, begun, cut-split, begun-length}
+use Rattle.cutter.proofs.Splits.{Split, split, joined-length, first-length, joined-packets, begun, cut-split, begun-length}
 use Rattle.cutter.proofs.Reaches.{whole-row, Reach, reach}
 use Rattle.cutter.proofs.Table.{listed-bounds}
 
@@ -54,7 +54,7 @@ module _ (run : List ℕ) (from l : ℕ) (h : from + l ≤ length run) (sp : Spl
   packets = joined-packets f b run (re .first) (re .joined)
 
   both : length f + length b ≡ length run
-  both = sym (length-append f b) ∙ ap length (re .joined)
+  both = joined-length f b run (re .joined)
 
   top-run : topOf run from l ≡ firstOffset from none (sift (inSlot from l) (starts (length f) (cut b .packets)))
   unfolding topOf
@@ -81,7 +81,7 @@ module _ (run : List ℕ) (from l : ℕ) (h : from + l ≤ length run) (sp : Spl
         let a : List ℕ = sq .before in
         let n : ℕ = length f + length a in
         let w : row (cut a .packets) ≡ a = whole-row a (sq .first) in
-        let ps : cut b .packets ≡ cut a .packets ++ cut (sq .after) .packets = joined-packets a (sq .after) b (sq .first) (sq .joined) in
+        let ps = joined-packets a (sq .after) b (sq .first) (sq .joined) in
         let i : lastFrom from l (lastPointer (length f - from)) (length f) (cut a .packets) ≡ lastPointer (n - from) =
         rw w at (last-within from l (length f) (cut a .packets) (cut-sized a) (re .past) (rw w (omega (arith, sq .low)))) in
         let o : sift (endsIn from l) (ends n (cut (sq .after) .packets)) ≡ [] =
@@ -147,8 +147,7 @@ module _ (run : List ℕ) (from l : ℕ) (h : from + l ≤ length run) (sp : Spl
         let m : ℕ = from + l - length (re .front) in
         let top : ℕ = length (re .front) - from in
         let last : ℕ = lastPointer (length (re .front) + length (q .before) - from) in
-        let k : length (re .front) + length (re .back) ≡ length run =
-        sym (length-append (re .front) (re .back)) ∙ ap length (re .joined) in
+        let k = joined-length (re .front) (re .back) run (re .joined) in
         let e : l - (m - length (q .before)) ≡ length (re .front) + length (q .before) - from =
         omega (arith, re .past, q .low) in
         rw (
@@ -165,7 +164,8 @@ module _ (run : List ℕ) (from l : ℕ) (h : from + l ≤ length run) (sp : Spl
 
   sound-past : 0 < l → from + l ≤ length (re .front) → sound slotBytes (topOf run from l) (lastOf run from l) ≡ true
   sound-past p t =
-      sound-without-top slotBytes _ _ (top-none run from l h sp re t) ∙ rw slot-length (go (decLe (length (re .front)) (from + l)))
+      sound-without-top slotBytes _ _ (top-none run from l h sp re t)
+      ∙ rw slot-length (go (decLe (length (re .front)) (from + l)))
     where
       go : Dec (length (re .front) ≤ from + l) → (eqb (lastOf run from l) none || eqb (lastOf run from l) l) ≡ true
       go (yes k) = rw (last-end run from l h sp re t (omega arith) p, eq-eqb l l refl) (or-true (eqb l none))
@@ -188,7 +188,8 @@ given-zero run l s output e = go (eqb (refusalOf run l s (length output)) 0) ref
     r = refusalOf run l s (length output)
 
     go : (t : Bool) → eqb r 0 ≡ t
-        → cond {A = CutSlot × List ℕ} t (pointed (slotAt run l s), slotAt run l s .bytes) (refused r, output) .0 .refusal ≡ 0 → r ≡ 0
+        → cond {A = CutSlot × List ℕ} t (pointed (slotAt run l s), slotAt run l s .bytes) (refused r, output) .0 .refusal ≡ 0
+        → r ≡ 0
     go true t e = eqb-true _ _ t
     go false t e = e
 

@@ -1,7 +1,7 @@
 -- A run of whole packets in two parts, split at the start of the packet that goes over a place.
 use Prim.Native.Nat.{ℕ, zero, suc, _+_, _-_, _≤_, _<_}
 use mathlib.Core.Path.{_≡_, refl, sym, _∙_, ap}
-use mathlib.Core.Bool.{Bool, true, false, _&&_, and-eq-true-iff, and-true}
+use mathlib.Core.Bool.{Bool, true, false, and-eq-true-iff, and-true}
 use mathlib.Core.List.{List, [], _∷_, _++_, append-assoc, append-nil}
 use native.Mathlib.Omega.{arith}
 use native.Mathlib.Decide.{decLe}
@@ -9,7 +9,7 @@ use lib.ListN.{length, take, drop, length-append, length-take, length-drop, take
 use lib.Seq.{length-take-le, take-length, drop-length, take-append-add}
 use Rattle.tlv.specs.Packet.{total, complete, marked, cut}
 use Rattle.tlv.specs.Cuts.{total-bytes, total-take, marked-append, complete-fits, complete-if, short-header, short-packet}
-use Rattle.tlv.specs.Cuts.{cut-induct, cut-end, cut-more, cut-nil, cut-whole, cut-append}
+use Rattle.tlv.specs.Cuts.{cut-induct, cut-end, cut-more, cut-nil, cut-append}
 
 -- whole packets, each with a good first byte
 pub record Whole (b : List ℕ) : Type 0 where
@@ -18,6 +18,10 @@ pub record Whole (b : List ℕ) : Type 0 where
 
 pub whole-nil : Whole []
 whole-nil = record { ended = rw cut-nil; good = rw cut-nil (unfold marked in refl) }
+
+-- bytes in two parts
+pub joined-length : (a b c : List ℕ) → a ++ b ≡ c → length a + length b ≡ length c
+joined-length a b c e = sym (length-append a b) ∙ ap length e
 
 -- one packet, and the packets behind it
 module _ (b : List ℕ) (c : complete b ≡ true) where
@@ -32,7 +36,8 @@ module _ (b : List ℕ) (c : complete b ≡ true) where
       let p : List ℕ = take (total b) b in
       let t : total p ≡ length p = total-take (total b) b (fits .0) ∙ sym first-length in
       let m : marked p ≡ marked b =
-      sym (marked-append p (drop (total b) b) (omega (arith, first-length, fits .0))) ∙ ap marked (take-append-drop (total b) b) in
+      sym (marked-append p (drop (total b) b) (omega (arith, first-length, fits .0)))
+      ∙ ap marked (take-append-drop (total b) b) in
       let d : complete p ≡ true = complete-if p (omega (arith, first-length, fits .0)) (omega arith) in
       cut-more p d ∙ rw (t, take-length p, drop-length p, cut-nil, m) (unfold marked in rw (and-true (marked b)))
 
@@ -156,5 +161,5 @@ module _ (b : List ℕ) (n : ℕ) (sp : Split b n) where
   pub begun-length : n ≤ length b → length begun ≡ n - length (sp .before)
   unfolding begun
   begun-length h =
-      let e : length (sp .before) + length (sp .after) ≡ length b = sym (length-append (sp .before) (sp .after)) ∙ ap length (sp .joined) in
+      let e = joined-length (sp .before) (sp .after) b (sp .joined) in
       length-take-le (n - length (sp .before)) (sp .after) (omega arith)

@@ -1,18 +1,17 @@
 -- What a cut slot does to the slot machine that holds the run so far: no note, and it then holds the run up to the slot's end.
 use Prim.Native.Nat.{ℕ, _+_, _-_, _≤_, _<_}
 use mathlib.Core.Path.{_≡_, refl, sym, _∙_, ap}
-use mathlib.Core.Bool.{Bool, true, false, cond, _&&_}
+use mathlib.Core.Bool.{true, false, _&&_}
 use mathlib.Core.List.{List, [], _∷_, _++_, append-assoc, map}
 use native.Mathlib.Omega.{arith}
 use native.Mathlib.Decide.{decLe}
 use lib.ListN.{length, take, drop, length-append, length-take}
-use lib.Seq.{take-add, drop-append-le, drop-append-add}
+use lib.Seq.{take-add, drop-append-add}
 use lib.Dec.{eqb, leb, ltb}
 use borrow.Author.Tests.{eq-eqb, ne-eqb, le-ltb, le-leb, lt-leb, eqb-false}
-use Rattle.tlv.specs.declared.held.Continuation.{Continuation}
 use Rattle.tlv.specs.declared.held.Continuation.the-variants.{Ends, GoesOn}
-use Rattle.tlv.specs.Packet.{total, complete, maxPacket, tooLong, cut}
-use Rattle.tlv.specs.Cuts.{total-bytes, total-take, complete-fits, cut-more}
+use Rattle.tlv.specs.Packet.{total, maxPacket, tooLong, cut}
+use Rattle.tlv.specs.Cuts.{total-bytes, total-take, cut-more}
 use Rattle.tlv.specs.Slot.{none, sound}
 use Rattle.tlv.specs.Held.{heldTotal, heldEnd, endWithin, endBeyond, continuationOf}
 use Rattle.tlv.specs.Held.{nothing-held, held-without-top, held-before-top}
@@ -21,7 +20,7 @@ use Rattle.tlv.specs.Run.{packetOf, after, kept, readFrom, finished, resumed, a
 use Rattle.cutter.specs.Pointers.{topOf, lastOf}
 use Rattle.cutter.specs.Claims.{AllShort}
 use Rattle.cutter.proofs.Packets.{whole-complete}
-use Rattle.cutter.proofs.Splits.{Whole, Split, first-length, whole-append, joined-packets, begun, begun-length}
+use Rattle.cutter.proofs.Splits.{Whole, Split, joined-length, first-length, whole-append, joined-packets, begun, begun-length}
 use Rattle.cutter.proofs.Reaches.{Reach, reach}
 use Rattle.cutter.proofs.Sound.{sq, top-in, top-none, last-end, last-none, slot-length, cut-from-top, slot-sound}
 
@@ -100,7 +99,7 @@ module _ (run : List ℕ) (short : AllShort (cut run .packets)) (from l : ℕ) (
 
   sizes : (length (sp .before) + length r ≡ length run) × (length f + length (re .back) ≡ length run)
   sizes =
-      (sym (length-append (sp .before) r) ∙ ap length (sp .joined), sym (length-append f (re .back)) ∙ ap length (re .joined))
+      (joined-length (sp .before) r run (sp .joined), joined-length f (re .back) run (re .joined))
 
   -- the held bytes
   abbrev hs : List ℕ
@@ -132,16 +131,20 @@ module _ (run : List ℕ) (short : AllShort (cut run .packets)) (from l : ℕ) (
       rw held-total
       (short-total r (sp .rest) (short-back (cut (sp .before) .packets) (cut r .packets) ps) (omega (arith, sizes, sp .low)))
 
-  -- it ends where the first packet starts
-  held-end : length (sp .before) < from → heldEnd hs bytes ≡ length f - from
-  unfolding heldEnd
-  held-end k =
-      let e : length f ≡ length (sp .before) + total r = rw (ne-eqb (length (sp .before)) from (omega arith)) at (re .reaches) in
-      rw (held-total, held-length) (omega (arith, sp .low, sp .high))
+  -- it ends where the first packet starts; with nothing held that is the slot's first byte
+  something : length (sp .before) < from → length f ≡ length (sp .before) + total r
+  something k = rw (ne-eqb (length (sp .before)) from (omega arith)) at (re .reaches)
 
-  -- with nothing held the first packet starts at the slot's first byte
   nothing : from ≤ length (sp .before) → length f ≡ from
   nothing k = rw (eq-eqb (length (sp .before)) from (omega (arith, sp .low))) at (re .reaches)
+
+  held-end : length (sp .before) < from → heldEnd hs bytes ≡ length f - from
+  unfolding heldEnd
+  held-end k = let e = something k in rw (held-total, held-length) (omega (arith, sp .low, sp .high))
+
+  -- the slot comes to them, and gives no note
+  abbrev Resumed : {A : Type 0} → A → List A → Type 0
+  Resumed a ls = Kept run (from + l) (resumed (continuationOf hs bytes top last) (withoutTop slot) ls hs a slot)
 
   -- a packet starts in the slot
   module _ (t : length f < from + l) where
@@ -207,7 +210,7 @@ module _ (run : List ℕ) (short : AllShort (cut run .packets)) (from l : ℕ) (
             state = holds-as run (from + l) (a ∷ []) _ next tail-is;
           })
 
-      kept-in : (ls : List A) → Kept run (from + l) (resumed (continuationOf hs bytes top last) (withoutTop slot) ls hs a slot)
+      kept-in : (ls : List A) → Resumed a ls
       unfolding resumed
       kept-in ls =
           let e : ℕ = length f - from in
@@ -271,7 +274,7 @@ module _ (run : List ℕ) (short : AllShort (cut run .packets)) (from l : ℕ) (
 
     on-next : from + l < length f → Split run (from + l)
     on-next k =
-        let e : length f ≡ length (sp .before) + total r = rw (ne-eqb (length (sp .before)) from (omega (arith, over))) at (re .reaches) in
+        let e = something over in
         record {
           before = sp .before;
           after = r;
@@ -287,7 +290,7 @@ module _ (run : List ℕ) (short : AllShort (cut run .packets)) (from l : ℕ) (
     on-tail k = sym held-slot
 
     module _ {A : Type 0} (a : A) (ls : List A) where
-      kept-past : Kept run (from + l) (resumed (continuationOf hs bytes top last) (withoutTop slot) ls hs a slot)
+      kept-past : Resumed a ls
       unfolding resumed
       kept-past = rw (eq-eqb top none top-is-none) (go (decLe (length f) (from + l)))
         where
@@ -309,7 +312,7 @@ module _ (run : List ℕ) (short : AllShort (cut run .packets)) (from l : ℕ) (
   unfolding arrived
   kept-held a ls = rw (slot-sound run from l h sp re (omega arith) most) (go (decLe (from + l) (length f)))
     where
-      go : Dec (from + l ≤ length f) → Kept run (from + l) (resumed (continuationOf hs bytes top last) (withoutTop slot) ls hs a slot)
+      go : Dec (from + l ≤ length f) → Resumed a ls
       go (yes t) = kept-past t a ls
       go (no t) = kept-in (omega arith) a ls
 

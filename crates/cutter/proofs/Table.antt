@@ -1,9 +1,9 @@
 -- The data lengths of the table, by one test computed over it.
 use Prim.Native.Nat.{ℕ, zero, suc, _+_, _≤_}
 use mathlib.Core.Path.{_≡_, refl}
-use mathlib.Core.Bool.{Bool, true, false, not, _&&_, and-eq-true-iff, and-true, true≢false}
+use mathlib.Core.Bool.{Bool, true, false, _&&_, and-eq-true-iff, and-true, true≢false}
 use native.Mathlib.Omega.{arith}
-use lib.Dec.{eqb, leb}
+use lib.Dec.{leb}
 use borrow.Author.Tests.{eqb-true, leb-true, not-false}
 use Rattle.tmcc.specs.Count.{allBelow}
 use Rattle.tmcc.specs.Mode.{dataBytes}

@@ -2,3 +2,4 @@
 pub mod Pointers
 pub mod Slot
 pub mod Claims
+pub mod Examples

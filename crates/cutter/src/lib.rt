@@ -1,3 +1,3 @@
 // The slot cutter: a slot of a run of TLV packets, with its pointers.
-pub mod pointers;
+mod pointers;
 pub mod slot;

@@ -1,12 +1,11 @@
 -- Why find meets its contract: the pointers so far, with the packets from the place that the loop comes to, are the slot's.
 use Prim.Native.Nat.{ℕ, _+_, _-_, _≤_, _<_}
-use mathlib.Core.Path.{_≡_, refl, sym, _∙_}
-use mathlib.Core.Bool.{true}
+use mathlib.Core.Path.{_≡_, refl, _∙_}
 use mathlib.Core.List.{List, []}
 use native.Mathlib.Omega.{arith}
 use lib.ListN.{length, drop}
 use borrow.Author.Needs.{needs}
-use Rattle.tlv.specs.Packet.{total, complete, cut}
+use Rattle.tlv.specs.Packet.{total, cut}
 use Rattle.tlv.specs.Cuts.{cut-sized}
 use Rattle.cutter.specs.Pointers.{topOf, lastOf, pointersOf}
 use Rattle.cutter.proofs.Packets.{fits-here, whole-next, top-next, last-next}

@@ -1,9 +1,8 @@
 -- Why is_unlisted meets its contract: no code rate so far has the length.
-use Prim.Native.Nat.{ℕ, _+_, _-_, _≤_}
+use Prim.Native.Nat.{_+_, _-_, _≤_}
 use mathlib.Core.Path.{_≡_, refl, sym, _∙_}
-use mathlib.Core.Bool.{true, not}
+use mathlib.Core.Bool.{true}
 use native.Mathlib.Omega.{arith}
-use lib.Dec.{eqb}
 use borrow.Author.Tests.{eq-eqb, ne-eqb}
 use borrow.Author.Needs.{needs}
 use Rattle.tmcc.specs.Count.{allBelow, all-one, all-below-false}
@@ -35,7 +34,7 @@ returns : tie.Need-returns Inv-loop μ-loop
 unfolding unlisted
 returns c =
     let r = c .before .before .before .loop .rate in
-    let e : dataBytes (r + 1) ≡ c .before .before .before .before .args .l = sym (c .before .data-bytes .ensures) ∙ c .if1 .taken in
+    let e = sym (c .before .data-bytes .ensures) ∙ c .if1 .taken in
     sym (all-below-false _ r 11 (omega arith) (rw (eq-eqb _ _ e)))
 
 add-rate : tie.Need-add-rate Inv-loop μ-loop

@@ -44,8 +44,7 @@ returns-3 c =
 
 -- past the third test the slot does not pass the run's end
 within : (d : tie.Else3)
-    → (d .before .before .before .before .before .before .args .s + 1) * d .before .before .before .before .before .before .args .l
-    ≤ length (d .before .before .before .before .before .before .args .run .now)
+    → let a = d .before .before .before .before .before .before .args in (a .s + 1) * a .l ≤ length (a .run .now)
 within d = le-div-iff-mul-le (div-if3 (d .before)) .0 (omega arith)
 
 returns-4 : tie.Need-returns-4
