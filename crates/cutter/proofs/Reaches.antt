@@ -17,7 +17,8 @@ use Rattle.cutter.specs.Pointers.{starts, ends, inSlot}
 use Rattle.cutter.proofs.Places.{in-before, in-past, in-there, lastFrom, starts-before, ends-before}
 use Rattle.cutter.proofs.Places.{starts-behind, last-append, pointer-end}
 use Rattle.cutter.proofs.Packets.{whole-complete}
-use Rattle.cutter.proofs.Splits.{Whole, Split, joined-length, first-length, cut-first, whole-first, whole-rest, whole-append}
+use Rattle.cutter.proofs.Splits.{Whole, Split, joined-length, first-length, cut-first}
+use Rattle.cutter.proofs.Splits.{whole-first, whole-rest, whole-append}
 
 -- the packets of whole bytes are these bytes
 pub whole-row : (b : List ℕ) → Whole b → row (cut b .packets) ≡ b

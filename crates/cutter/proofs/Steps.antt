@@ -20,7 +20,8 @@ use Rattle.tlv.specs.Run.{packetOf, after, kept, readFrom, finished, resumed, a
 use Rattle.cutter.specs.Pointers.{topOf, lastOf}
 use Rattle.cutter.specs.Claims.{AllShort}
 use Rattle.cutter.proofs.Packets.{whole-complete}
-use Rattle.cutter.proofs.Splits.{Whole, Split, joined-length, first-length, whole-append, joined-packets, begun, begun-length}
+use Rattle.cutter.proofs.Splits.{Whole, Split, joined-length, first-length, whole-append, joined-packets}
+use Rattle.cutter.proofs.Splits.{begun, begun-length}
 use Rattle.cutter.proofs.Reaches.{Reach, reach}
 use Rattle.cutter.proofs.Sound.{sq, top-in, top-none, last-end, last-none, slot-length, cut-from-top, slot-sound}
 

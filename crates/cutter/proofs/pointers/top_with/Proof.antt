@@ -10,7 +10,7 @@ returns : tie.Need-returns
 returns c = sym (top-stays _ _ _ _ (c .if1 .taken))
 
 returns-2 : tie.Need-returns-2
-returns-2 c = sym (top-before _ _ _ _ (c .before .if1 .left) (c .if2 .taken))
+returns-2 c = sym (top-before _ _ _ _ (c .before .if1 .left) (omega arith))
 
 cast-result : tie.Need-cast-result
 cast-result c = search needs
