@@ -51,19 +51,26 @@ module _ {A : Type 0} (run : List ℕ) (short : AllShort (cut run .packets)) (l 
   abbrev slotsIn : List (A × Slot) → List Slot
   slotsIn = map (λ (x : A × Slot). x .1)
 
-  -- one slot, for any state that holds the run so far
-  one : (s : ℕ) (x : A × Slot) (st : State A) → x .1 ≡ slotAt run l s → s * l + l ≤ length run → Holds run (s * l) st
+  -- the machine is searching before the first slot, and then holds the run so far
+  data Ready (n : ℕ) : State A → Type 0 where
+    fresh : n ≡ 0 → Whole run → Ready n searching
+    going : {st : State A} → Holds run n st → Ready n st
+
+  one : (s : ℕ) (x : A × Slot) (st : State A) → x .1 ≡ slotAt run l s → s * l + l ≤ length run → Ready (s * l) st
       → Kept run (s * l + l) (step st (given (x .0) (x .1)))
   unfolding slotAt
-  one s x st e h (holds ls sp) = rw (e, step-given) (kept-held run short (s * l) l h least most sp (x .0) ls)
+  one s x st e h (fresh z w) =
+      let sp = split run w (s * l) (omega arith) in
+      rw (e, step-given) (kept-first run short (s * l) l h least most sp z (x .0))
+  one s x st e h (going (holds ls sp)) = rw (e, step-given) (kept-held run short (s * l) l h least most sp (x .0) ls)
 
-  clean-held : (n s : ℕ) (xs : List (A × Slot)) (st : State A) → slotsIn xs ≡ slotsFrom run l s n → s * l + n * l ≤ length run
-      → Holds run (s * l) st → Clean (events st (intact xs))
+  cleans : (n s : ℕ) (xs : List (A × Slot)) (st : State A) → slotsIn xs ≡ slotsFrom run l s n → s * l + n * l ≤ length run
+      → Ready (s * l) st → Clean (events st (intact xs))
   unfolding events
-  clean-held zero s [] st e h d = tt
-  clean-held zero s (x ∷ xs) st e h d = absurd (cons≢nil e)
-  clean-held (suc n) s [] st e h d = absurd (cons≢nil (sym e))
-  clean-held (suc n) s (x ∷ xs) st e h d =
+  cleans zero s [] st e h d = tt
+  cleans zero s (x ∷ xs) st e h d = absurd (cons≢nil e)
+  cleans (suc n) s [] st e h d = absurd (cons≢nil (sym e))
+  cleans (suc n) s (x ∷ xs) st e h d =
       let m : suc n * l ≡ n * l + l = suc-mul n l in
       let k : (s + 1) * l ≡ s * l + l = next-slot s l in
       let i : x .1 ≡ slotAt run l s = cc in
@@ -71,31 +78,7 @@ module _ {A : Type 0} (run : List ℕ) (short : AllShort (cut run .packets)) (l 
       let r = one s x st i (omega arith) d in
       let t = step st (given (x .0) (x .1)) in
       clean-append (t .events) (events (t .state) (intact xs)) (r .clean)
-      (clean-held n (s + 1) xs (t .state) j (omega arith) (rw k (r .state)))
-
-  -- the first slot comes to a machine that is searching
-  first : (x : A × Slot) → Whole run → x .1 ≡ slotAt run l 0 → 0 * l + l ≤ length run
-      → Kept run (0 * l + l) (step searching (given (x .0) (x .1)))
-  unfolding slotAt
-  first x w e h =
-      let sp = split run w (0 * l) (omega arith) in
-      rw (e, step-given) (kept-first run short (0 * l) l h least most sp (omega arith) (x .0))
-
-  clean-first : (n : ℕ) (xs : List (A × Slot)) → Whole run → slotsIn xs ≡ slotsFrom run l 0 n → n * l ≤ length run
-      → Clean (events searching (intact xs))
-  unfolding events
-  clean-first zero [] w e h = tt
-  clean-first zero (x ∷ xs) w e h = absurd (cons≢nil e)
-  clean-first (suc n) [] w e h = absurd (cons≢nil (sym e))
-  clean-first (suc n) (x ∷ xs) w e h =
-      let m : suc n * l ≡ n * l + l = suc-mul n l in
-      let k : (0 + 1) * l ≡ 0 * l + l = next-slot 0 l in
-      let i : x .1 ≡ slotAt run l 0 = cc in
-      let j : slotsIn xs ≡ slotsFrom run l (0 + 1) n = cc in
-      let r = first x w i (omega arith) in
-      let t = step searching (given (x .0) (x .1)) in
-      clean-append (t .events) (events (t .state) (intact xs)) (r .clean)
-      (clean-held n (0 + 1) xs (t .state) j (omega arith) (rw k (r .state)))
+      (cleans n (s + 1) xs (t .state) j (omega arith) (going (rw k (r .state))))
 
   -- the bytes of the slots are the run's
   bytes-from : (n s : ℕ) (xs : List (A × Slot)) → slotsIn xs ≡ slotsFrom run l s n
@@ -146,7 +129,7 @@ cut-run A run l n xs f short e =
     let b = listed-bounds l (f .listed) in
     let least : 4 ≤ l = omega arith in
     let most : l < none = omega arith in
-    let c = clean-first run short l least most n xs w e (omega (arith, f .multiple)) in
+    let c = cleans run short l least most n 0 xs searching e (omega (arith, f .multiple)) (fresh (omega arith) w) in
     let fl = filled run short l least most n 0 xs e (omega (arith, f .multiple)) in
     let es = events searching (intact xs) in
     let keep : A → Bool = λ (a : A). true in (

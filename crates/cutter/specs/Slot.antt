@@ -27,7 +27,7 @@ otherRate l k = not (eqb (dataBytes (k + 1)) l)
 unfoldable pub unlisted : ℕ → Bool
 unlisted l = allBelow (otherRate l) 11
 
--- `n` is the output's length; 0 for none
+-- the first refusal of a call whose output has n bytes; 0 for none
 unfoldable pub refusalOf : List ℕ → ℕ → ℕ → ℕ → ℕ
 refusalOf run l s n =
     cond (whole run)
@@ -40,6 +40,7 @@ refusalOf run l s n =
 unfoldable pub slotAt : List ℕ → ℕ → ℕ → Slot
 slotAt run l s = record { top = topOf run (s * l) l; last = lastOf run (s * l) l; bytes = take l (drop (s * l) run) }
 
+-- "Refused calls return the number only": both pointers are then 0
 abbrev pub refused : ℕ → CutSlot
 refused n = record { refusal = n; top = 0; last = 0 }
 
