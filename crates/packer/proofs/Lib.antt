@@ -1,0 +1,6 @@
+-- The laws that the proofs share.
+pub mod Written
+pub mod Pieces
+pub mod Lengths
+pub mod Runs
+pub mod Refusals

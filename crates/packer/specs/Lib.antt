@@ -1,0 +1,4 @@
+-- The definitions of the packer.
+pub mod Pieces
+pub mod Packet
+pub mod Packer
