@@ -1,4 +1,5 @@
--- The definitions of the packer.
+-- The definitions of the packer, and examples.
 pub mod Pieces
 pub mod Packet
 pub mod Packer
+pub mod Examples
