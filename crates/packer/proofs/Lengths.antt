@@ -88,7 +88,8 @@ field-bytes-most kind = go (eqb kind 2) (eqb kind 3)
     go false true = omega arith
     go false false = omega arith
 
-pub sizes : (kind : ℕ) → (headBytes kind ≡ 19 + payloadHeadBytes kind + fieldBytes kind) × (payloadHeadBytes kind ≤ 8) × (fieldBytes kind ≤ 14)
+pub sizes : (kind : ℕ)
+    → (headBytes kind ≡ 19 + payloadHeadBytes kind + fieldBytes kind) × (payloadHeadBytes kind ≤ 8) × (fieldBytes kind ≤ 14)
 unfolding headBytes payloadHeadBytes
 sizes kind = (refl, go (eqb kind 4), field-bytes-most kind)
   where

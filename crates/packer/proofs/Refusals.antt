@@ -14,13 +14,18 @@ use Rattle.packer.proofs.Pieces.{count-pieces, covers}
 use Rattle.packer.proofs.Runs.{length-run}
 
 -- what is at most 256 pieces of at most 1,400 bytes is small
-pub small : (m len head : ℕ) → 0 < m → m ≤ 1400 → countOf m len ≤ 256 → head ≤ 41 → (countOf m len * head ≤ 10496) × (len ≤ 358400)
+pub small : (m len head : ℕ) → 0 < m → m ≤ 1400 → countOf m len ≤ 256 → head ≤ 41
+    → (countOf m len * head ≤ 10496) × (len ≤ 358400)
 small m len head p h n k =
     let a : countOf m len * head ≤ 256 * 41 = mul-le-mul n k in
     let b : m * countOf m len ≤ 1400 * 256 = mul-le-mul h n in
     (omega arith, omega (arith, covers m len p))
 
 module _ (u : Unit) (cid sn m : ℕ) (s out : List ℕ) where
+  -- the length of the run
+  abbrev total : ℕ
+  total = countOf m (length s) * headBytes (u .kind) + length s
+
   pub size-zero : m ≡ 0 → packOf u cid sn m s out ≡ (refusedWith 70, out)
   unfolding packOf refusalOf
   size-zero e = rw (eq-eqb _ _ e)
@@ -41,13 +46,13 @@ module _ (u : Unit) (cid sn m : ℕ) (s out : List ℕ) where
         too-many h = rw (ne-eqb _ _ a, le-ltb _ _ b, le-ltb _ _ k, count-pieces m s, lt-ltb _ _ h)
 
         module _ (n : countOf m (length s) ≤ 256) where
-          pub output-short : length out < countOf m (length s) * headBytes (u .kind) + length s
+          pub output-short : length out < total
               → packOf u cid sn m s out ≡ (refusedWith 73, out)
           unfolding packOf refusalOf
           output-short h =
               rw (ne-eqb _ _ a, le-ltb _ _ b, le-ltb _ _ k, length-run u cid sn m s, count-pieces m s, le-ltb _ _ n, lt-ltb _ _ h)
 
-          module _ (l : countOf m (length s) * headBytes (u .kind) + length s ≤ length out) where
+          module _ (l : total ≤ length out) where
             pub cid-large : 4095 < cid → packOf u cid sn m s out ≡ (refusedWith 74, out)
             unfolding packOf refusalOf
             cid-large h =
@@ -64,7 +69,7 @@ module _ (u : Unit) (cid sn m : ℕ) (s out : List ℕ) where
 
             pub accepted : cid ≤ 4095
                 → packOf u cid sn m s out
-                ≡ (record { refusal = 0; len = countOf m (length s) * headBytes (u .kind) + length s }, packed (run u cid sn m s) out)
+                ≡ (record { refusal = 0; len = total }, packed (run u cid sn m s) out)
             unfolding packOf refusalOf
             accepted h =
                 rw (

@@ -25,7 +25,8 @@ module _ (u : Unit) (cid sn : ℕ) where
   unfolding packetsFrom joined
   length-from n i [] = rw zero-mul
   length-from n i (s ∷ ps) =
-      rw (length-append (packetAt u cid sn n i s), length-packet-at, length-from n (i + 1) ps, length-append s (joined ps), suc-mul) (omega arith)
+      let t = length-from n (i + 1) ps in
+      rw (length-append (packetAt u cid sn n i s), length-packet-at, t, length-append s (joined ps), suc-mul) (omega arith)
 
   module _ (m : ℕ) (s : List ℕ) where
     -- a head for each piece, and the unit

@@ -36,8 +36,8 @@ module _ {d : List ℕ} {at : ℕ} {e s : List ℕ} {n : ℕ} (w : Wrote d at e 
       }
 
 -- a turn of a loop that writes `l`, of which `s` comes first: what is left is put in behind `s`
-pub turn : (d e s t l : List ℕ) (at k : ℕ) → l ≡ s ++ t → e ≡ pasted d at s (length s) → k ≡ at + length s → at + length l ≤ length d
-    → pasted e k t (length t) ≡ pasted d at l (length l)
+pub turn : (d e s t l : List ℕ) (at k : ℕ) → l ≡ s ++ t → e ≡ pasted d at s (length s) → k ≡ at + length s
+    → at + length l ≤ length d → pasted e k t (length t) ≡ pasted d at l (length l)
 turn d e s t l at k p q r h =
     let n : length l ≡ length s + length t = ap length p ∙ length-append s t in
     rw (q, r, p, length-append s t) (pasted-append d at s t (omega arith))

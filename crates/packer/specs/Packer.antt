@@ -64,6 +64,14 @@ pub record Planned (p : Plan) (len room : ℕ) : Type 0 where
   pub few : p .n ≤ 256
   pub fits : p .n * headBytes (p .unit .kind) + len ≤ room
 
+abbrev pub plannedRun : Plan → List ℕ → List ℕ
+plannedRun p s = run (p .unit) (p .cid) (p .sn) (p .m) s
+
 -- the packet of piece `i` of a plan
 abbrev pub planned : Plan → ℕ → List ℕ → List ℕ
 planned p i s = packetAt (p .unit) (p .cid) (p .sn) (p .n) i (take (p .m) (drop (i * p .m) s))
+
+-- a packet `t` written at `at`: the output, and where the packet ends
+pub record Writes (t : List ℕ) (at end : ℕ) (before after : List ℕ) : Type 0 where
+  pub ends : end ≡ at + length t
+  pub writes : after ≡ pasted before at t (length t)

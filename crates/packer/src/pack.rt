@@ -2,9 +2,7 @@
 ghost use mathlib.Core.Path.{_≡_};
 ghost use Prim.Native.Nat.{_+_, _*_, _≤_, _<_, _%_};
 ghost use lib.ListN.{length, take, drop};
-ghost use Rattle.wire.specs.Memory.{pasted};
-ghost use Rattle.packer.specs.Packet.{headBytes};
-ghost use Rattle.packer.specs.Packer.{Planned, planned, packed, run, refusedWith, packOf};
+ghost use Rattle.packer.specs.Packer.{Planned, planned, plannedRun, Writes, packed, refusedWith, packOf};
 use crate::packet;
 use crate::piece;
 use reassembly::unit::Unit;
@@ -37,8 +35,7 @@ fn sn_at(sn: u8, i: usize) -> u8
 fn write_piece(plan: Plan, i: usize, bytes: &[u8], output: &mut [u8], at: usize) -> usize
     requires { ⌜ Planned plan (length (now bytes)) (length (now output)) ⌝ }
     requires { ⌜ (i < plan .n) × (at + length (planned plan i (now bytes)) ≤ length (now output)) ⌝ }
-    ensures { λ r. ⌜ (r ≡ at + length (planned plan i (now (bytes .entry))))
-        × (now (output .exit) ≡ pasted (now (output .entry)) at (planned plan i (now (bytes .entry))) (length (planned plan i (now (bytes .entry))))) ⌝ }
+    ensures { λ r. ⌜ Writes (planned plan i (now (bytes .entry))) at r (now (output .entry)) (now (output .exit)) ⌝ }
 {
     let unit = plan.unit;
     let m = plan.m;
@@ -51,7 +48,7 @@ fn write_piece(plan: Plan, i: usize, bytes: &[u8], output: &mut [u8], at: usize)
 // The packets, one behind the other.
 fn write_run(plan: Plan, bytes: &[u8], output: &mut [u8])
     requires { ⌜ Planned plan (length (now bytes)) (length (now output)) ⌝ }
-    ensures { λ _. ⌜ now (output .exit) ≡ packed (run (plan .unit) (plan .cid) (plan .sn) (plan .m) (now (bytes .entry))) (now (output .entry)) ⌝ }
+    ensures { λ _. ⌜ now (output .exit) ≡ packed (plannedRun plan (now (bytes .entry))) (now (output .entry)) ⌝ }
 {
     let n = plan.n;
     let mut at = 0;

@@ -4,8 +4,9 @@ ghost use mathlib.Core.List.{[], _∷_};
 ghost use Prim.Native.Nat.{_+_, _≤_, _<_};
 ghost use lib.ListN.{length};
 ghost use Rattle.wire.specs.Memory.{pasted};
-ghost use Rattle.packer.specs.Packet.{payloadType, indicatorBits, fragmentBits, outerHead, mmtpHead, mpuHead, signallingHead};
-ghost use Rattle.packer.specs.Packet.{payloadHead, payloadHeadBytes, timedFields, fieldsWritten, headBytes, packetOf, Writable};
+ghost use Rattle.packer.specs.Packet.{outerHead, payloadType, mmtpHead, indicatorBits, fragmentBits, mpuHead};
+ghost use Rattle.packer.specs.Packet.{signallingHead, payloadHead, payloadHeadBytes, timedFields, fieldsWritten};
+ghost use Rattle.packer.specs.Packet.{packetOf, headBytes, Writable};
 ghost use Rattle.mmtp.specs.Unit.{fieldBytes};
 use mmtp::header::Psn;
 use mmtp::payload::Indicator;
@@ -112,7 +113,8 @@ fn write_signalling(output: &mut [u8], at: usize, fi: Indicator, counter: u8)
 // The payload header, before a data unit of `len` bytes.
 fn write_payload_head(output: &mut [u8], at: usize, p: Piece, len: u16)
     requires { ⌜ (at + payloadHeadBytes (p .unit .kind) ≤ length (now output)) × (p .unit .kind ≤ 4) × (len ≤ 1414) ⌝ }
-    ensures { λ _. ⌜ now (output .exit) ≡ pasted (now (output .entry)) at (payloadHead p len) (payloadHeadBytes (p .unit .kind)) ⌝ }
+    ensures { λ _. ⌜ now (output .exit)
+        ≡ pasted (now (output .entry)) at (payloadHead p len) (payloadHeadBytes (p .unit .kind)) ⌝ }
 {
     let unit = p.unit;
     let kind = unit.kind;
@@ -153,7 +155,8 @@ fn write_fields(output: &mut [u8], at: usize, kind: u8, f: Fields)
 pub fn write_packet(output: &mut [u8], at: usize, cid: u16, sn: u8, p: Piece, bytes: &[u8])
     requires { ⌜ Writable (length (now output)) at cid sn p (length (now bytes)) ⌝ }
     ensures { λ _. ⌜ now (output .exit)
-        ≡ pasted (now (output .entry)) at (packetOf cid sn p (now (bytes .entry))) (headBytes (p .unit .kind) + length (now (bytes .entry))) ⌝ }
+        ≡ pasted (now (output .entry)) at (packetOf cid sn p (now (bytes .entry)))
+        (headBytes (p .unit .kind) + length (now (bytes .entry))) ⌝ }
 {
     let unit = p.unit;
     let kind = unit.kind;

@@ -1,8 +1,7 @@
 -- Why pack meets its contract: each return is one case of the definition.
-use Prim.Native.Nat.{ℕ, _*_, _≤_}
-use mathlib.Core.Path.{sym, ap}
+use Prim.Native.Nat.{_*_, _<_, _≤_}
+use mathlib.Core.Path.{sym}
 use lib.ListN.{length}
-use Rattle.packer.specs.Pieces.{countOf}
 use native.Mathlib.Omega.{arith}
 use Rattle.packer.proofs.Refusals.{small, size-zero, size-large, kind-large, too-many, output-short, cid-large, accepted}
 use borrow.Author.Needs.{needs}
@@ -14,16 +13,14 @@ refused-requires c κs = search needs
 
 returns : tie.Need-returns
 returns c =
-    let a = c .before .before .before .before .args in
-    rw (c .refused .ensures) (sym (size-zero (a .unit) (a .cid) (a .sn) (a .m) (a .bytes .now) (a .output .now) (c .before .if1 .taken)))
+    rw (c .refused .ensures) (sym (size-zero _ _ _ _ _ _ (c .before .if1 .taken)))
 
 refused-requires-2 : tie.Need-refused-requires-2
 refused-requires-2 c κs = search needs
 
 returns-2 : tie.Need-returns-2
 returns-2 c =
-    let a = c .before .before .before .before .before .args in
-    rw (c .refused2 .ensures) (sym (size-large (a .unit) (a .cid) (a .sn) (a .m) (a .bytes .now) (a .output .now) (c .before .before .if1 .left) (c .before .if2 .taken)))
+    rw (c .refused2 .ensures) (sym (size-large _ _ _ _ _ _ (c .before .before .if1 .left) (c .before .if2 .taken)))
 
 refused-requires-3 : tie.Need-refused-requires-3
 refused-requires-3 c κs = search needs
@@ -31,8 +28,7 @@ refused-requires-3 c κs = search needs
 returns-3 : tie.Need-returns-3
 returns-3 c =
     let d = c .before .before in
-    let a = d .before .before .before .before .args in
-    rw (c .refused3 .ensures) (sym (kind-large (a .unit) (a .cid) (a .sn) (a .m) (a .bytes .now) (a .output .now) (d .before .if1 .left) (d .if2 .left) (c .before .if3 .taken)))
+    rw (c .refused3 .ensures) (sym (kind-large _ _ _ _ _ _ (d .before .if1 .left) (d .if2 .left) (c .before .if3 .taken)))
 
 count-requires : tie.Need-count-requires
 count-requires c κs = search needs
@@ -45,33 +41,29 @@ returns-4 c =
     let e = c .before .before .count .ensures in
     let h = rw e at (c .before .if4 .taken) in
     let d = c .before .before .before in
-    let a = d .before .before .before .before .before .args in
-    rw (c .refused4 .ensures) (sym (too-many (a .unit) (a .cid) (a .sn) (a .m) (a .bytes .now) (a .output .now) (d .before .before .if1 .left) (d .before .if2 .left) (d .if3 .left) h))
+    rw (c .refused4 .ensures) (sym (too-many _ _ _ _ _ _ (d .before .before .if1 .left) (d .before .if2 .left) (d .if3 .left) h))
 
 head-bytes-requires : tie.Need-head-bytes-requires
 head-bytes-requires c κs = search needs
 
-mul-len : tie.Need-mul-len
-mul-len c =
+-- what is written is small
+few : (c : tie.After-head-bytes)
+    → (c .before .before .count .result * c .head-bytes .result ≤ 10496)
+    × (length (c .before .before .before .before .before .before .before .before .args .bytes .now) ≤ 358400)
+few c =
     let q = c .before .before in
     let d = q .before in
     let a = d .before .before .before .before .before .args in
+    let p : 0 < a .m = omega (arith, d .before .before .if1 .left) in
     let e = q .count .ensures in
-    let h : countOf (a .m) (length (a .bytes .now)) ≤ 256 = omega (arith, e, c .before .if4 .left) in
-    let z = small (a .m) (length (a .bytes .now)) (c .head-bytes .result) (omega (arith, d .before .before .if1 .left)) (d .before .if2 .left) h (c .head-bytes .ensures .1) in
-    let l = ap (λ (n : ℕ). n * c .head-bytes .result) e in
-    omega (arith, z, l)
+    let h = rw e at (c .before .if4 .left) in
+    rw e (small (a .m) (length (a .bytes .now)) (c .head-bytes .result) p (d .before .if2 .left) h (c .head-bytes .ensures .1))
+
+mul-len : tie.Need-mul-len
+mul-len c = omega (arith, few c)
 
 add-len : tie.Need-add-len
-add-len c =
-    let q = c .before .before in
-    let d = q .before in
-    let a = d .before .before .before .before .before .args in
-    let e = q .count .ensures in
-    let h : countOf (a .m) (length (a .bytes .now)) ≤ 256 = omega (arith, e, c .before .if4 .left) in
-    let z = small (a .m) (length (a .bytes .now)) (c .head-bytes .result) (omega (arith, d .before .before .if1 .left)) (d .before .if2 .left) h (c .head-bytes .ensures .1) in
-    let l = ap (λ (n : ℕ). n * c .head-bytes .result) e in
-    omega (arith, z, l)
+add-len c = omega (arith, few c)
 
 refused-requires-5 : tie.Need-refused-requires-5
 refused-requires-5 c κs = search needs
@@ -81,11 +73,11 @@ returns-5 c =
     let k = c .before .before in
     let q = k .before .before in
     let d = q .before in
-    let a = d .before .before .before .before .before .args in
     let e = q .count .ensures in
     let n = rw e at (k .before .if4 .left) in
     let h = rw (e, k .head-bytes .ensures .0) at (c .before .if5 .taken) in
-    rw (c .refused5 .ensures) (sym (output-short (a .unit) (a .cid) (a .sn) (a .m) (a .bytes .now) (a .output .now) (d .before .before .if1 .left) (d .before .if2 .left) (d .if3 .left) n h))
+    rw (c .refused5 .ensures)
+    (sym (output-short _ _ _ _ _ _ (d .before .before .if1 .left) (d .before .if2 .left) (d .if3 .left) n h))
 
 refused-requires-6 : tie.Need-refused-requires-6
 refused-requires-6 c κs = search needs
@@ -96,11 +88,11 @@ returns-6 c =
     let k = g .before in
     let q = k .before .before in
     let d = q .before in
-    let a = d .before .before .before .before .before .args in
     let e = q .count .ensures in
     let n = rw e at (k .before .if4 .left) in
     let l = rw (e, k .head-bytes .ensures .0) at (g .if5 .left) in
-    rw (c .refused6 .ensures) (sym (cid-large (a .unit) (a .cid) (a .sn) (a .m) (a .bytes .now) (a .output .now) (d .before .before .if1 .left) (d .before .if2 .left) (d .if3 .left) n l (c .before .if6 .taken)))
+    rw (c .refused6 .ensures)
+    (sym (cid-large _ _ _ _ _ _ (d .before .before .if1 .left) (d .before .if2 .left) (d .if3 .left) n l (c .before .if6 .taken)))
 
 write-run-requires : tie.Need-write-run-requires
 write-run-requires c κs =
@@ -131,12 +123,12 @@ returns-7 c =
     let k = g .before in
     let q = k .before .before in
     let d = q .before in
-    let a = d .before .before .before .before .before .args in
     let e = q .count .ensures in
     let o = k .head-bytes .ensures .0 in
     let n = rw e at (k .before .if4 .left) in
     let l = rw (e, o) at (g .if5 .left) in
-    rw (w .write-run .ensures, o, e) (sym (accepted (a .unit) (a .cid) (a .sn) (a .m) (a .bytes .now) (a .output .now) (d .before .before .if1 .left) (d .before .if2 .left) (d .if3 .left) n l (f .if6 .left)))
+    rw (w .write-run .ensures, o, e)
+    (sym (accepted _ _ _ _ _ _ (d .before .before .if1 .left) (d .before .if2 .left) (d .if3 .left) n l (f .if6 .left)))
 
 pub pack-spec : {M : Type 1} → statement M
 pack-spec =

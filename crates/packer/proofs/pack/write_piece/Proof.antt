@@ -80,10 +80,9 @@ returns c =
     let p = a .plan in
     let s = take (p .m) (drop (a .i * p .m) (a .bytes .now)) in
     let e = ap length (q .before .cut .ensures) in
-    let l = length-packet-at (p .unit) (p .cid) (p .sn) (p .n) (a .i) s in (
-      omega (arith, e, l, c .head-bytes .ensures .0),
-      rw (q .number .ensures, d .before .sn-at .ensures .0, q .before .cut .ensures, ← l) at (d .write-packet .ensures),
-    )
+    let l = length-packet-at (p .unit) (p .cid) (p .sn) (p .n) (a .i) s in
+    let w = rw (q .number .ensures, d .before .sn-at .ensures .0, q .before .cut .ensures, ← l) at (d .write-packet .ensures) in
+    record { ends = omega (arith, e, l, c .head-bytes .ensures .0); writes = w }
 
 pub write-piece-spec : {M : Type 1} → statement M
 write-piece-spec =

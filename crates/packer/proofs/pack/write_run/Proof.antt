@@ -57,8 +57,10 @@ loop-again c =
     let r = l .inv in (
       omega (arith, h),
       omega (arith, d .write-piece .kept, r .1),
-      omega (arith, n, e .0, r .2),
-      turn (l .output) _ (planned p (l .i) s) (left p s (l .i + 1)) (left p s (l .i)) (l .at) _ t (e .1) (e .0) (omega (arith, r .1, r .2)) ∙ r .3,
+      omega (arith, n, e .ends, r .2),
+      turn (l .output) _ (planned p (l .i) s) (left p s (l .i + 1)) (left p s (l .i)) (l .at) _ t (e .writes) (e .ends)
+          (omega (arith, r .1, r .2))
+          ∙ r .3,
     )
 
 same-length : tie.Need-same-length Inv-loop μ-loop

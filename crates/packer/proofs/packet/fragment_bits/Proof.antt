@@ -20,7 +20,9 @@ returns-3 c = rw (c .match .keys3) (refl, omega arith)
 
 returns-4 : tie.Need-returns-4
 unfolding fragmentBits
-returns-4 c = rw (ne-eqb _ _ (c .match .rest .0 .0 .1), ne-eqb _ _ (c .match .rest .0 .1), ne-eqb _ _ (c .match .rest .1)) (refl, omega arith)
+returns-4 c =
+    let r = c .match .rest in
+    rw (ne-eqb _ _ (r .0 .0 .1), ne-eqb _ _ (r .0 .1), ne-eqb _ _ (r .1)) (refl, omega arith)
 
 pub fragment-bits-spec : {M : Type 1} → statement M
 fragment-bits-spec = tie.close (tie.spec returns returns-2 returns-3 returns-4)

@@ -6,7 +6,8 @@ use Rattle.wire.specs.Memory.{pasted}
 use native.Mathlib.Omega.{arith}
 use lib.ListN.{length}
 use Rattle.packer.specs.Packet.{outerHead, mmtpHead, payloadHead, fieldsWritten, dataUnit, mmtpOf, packetOf, headBytes}
-use Rattle.packer.proofs.Lengths.{sizes, length-outer, length-mmtp-head, length-payload-head, length-fields, length-unit, length-mmtp}
+use Rattle.packer.proofs.Lengths.{sizes, length-outer, length-mmtp-head, length-payload-head}
+use Rattle.packer.proofs.Lengths.{length-fields, length-unit, length-mmtp}
 use Rattle.packer.proofs.Written.{wrote, behind}
 use borrow.Author.Needs.{needs}
 use Rattle.packer.proofs.packet.write_packet.Statement.{statement}
@@ -111,7 +112,10 @@ write-fields-requires c κs =
     let h = d .before .payload-head-bytes .ensures in
     let z = sizes (s .args .p .unit .kind) in
     let w = s .pre in
-    omega (arith, h, z, w .fits, c .before .before .before .write-payload-head .kept, c .before .before .before .before .before .before .before .write-mmtp .kept, c .before .before .before .before .before .before .before .before .before .before .before .write-outer .kept)
+    let x3 = c .before .before .before in
+    let x2 = x3 .before .before .before .before in
+    let x1 = x2 .before .before .before .before in
+    omega (arith, h, z, w .fits, x3 .write-payload-head .kept, x2 .write-mmtp .kept, x1 .write-outer .kept)
 
 head-bytes-requires : tie.Need-head-bytes-requires
 head-bytes-requires c κs = search needs
@@ -151,12 +155,13 @@ returns c =
     let m = mmtpHead (u .kind) (u .«packet_id») (u .psn .0) in
     let y = payloadHead p (length (dataUnit p s)) in
     let x = fieldsWritten (u .kind) (u .fields) in
+    let room = g .pre .fits in
     let e1 = wrote (a .output .now) (a .at) _ o 7 t1 (length-outer _ _ _) in
-    let e2 = behind e1 _ m 12 (a .at + 7) (w2 .write-mmtp .ensures) (length-mmtp-head _ _ _) refl (omega (arith, z, g .pre .fits)) in
-    let e3 = behind e2 _ y _ (a .at + 19) t3 (length-payload-head _ _) refl (omega (arith, z, g .pre .fits)) in
-    let e4 = behind e3 _ x _ _ (w4 .write-fields .ensures) (length-fields _ _) (omega (arith, h)) (omega (arith, z, g .pre .fits)) in
+    let e2 = behind e1 _ m 12 (a .at + 7) (w2 .write-mmtp .ensures) (length-mmtp-head _ _ _) refl (omega (arith, z, room)) in
+    let e3 = behind e2 _ y _ (a .at + 19) t3 (length-payload-head _ _) refl (omega (arith, z, room)) in
+    let e4 = behind e3 _ x _ _ (w4 .write-fields .ensures) (length-fields _ _) (omega (arith, h)) (omega (arith, z, room)) in
     let k = w5 .before .head-bytes .ensures in
-    let e5 = behind e4 _ s _ _ (w5 .copy-at .ensures) refl (omega (arith, z, k)) (omega (arith, z, g .pre .fits)) in
+    let e5 = behind e4 _ s _ _ (w5 .copy-at .ensures) refl (omega (arith, z, k)) (omega (arith, z, room)) in
     let q : (((o ++ m) ++ y) ++ x) ++ s ≡ packetOf (a .cid) (a .sn) p s = simp append-assoc in
     e5 .is ∙ ap (λ (l : List ℕ). pasted (a .output .now) (a .at) l (headBytes (u .kind) + length s)) q
 
