@@ -4,3 +4,5 @@ pub mod Pieces
 pub mod Lengths
 pub mod Runs
 pub mod Refusals
+pub mod Wholes
+pub mod PacketReads

@@ -3,3 +3,4 @@ pub mod Pieces
 pub mod Packet
 pub mod Packer
 pub mod Examples
+pub mod Reads
