@@ -6,3 +6,4 @@ pub mod Runs
 pub mod Refusals
 pub mod Wholes
 pub mod PacketReads
+pub mod Rejoins

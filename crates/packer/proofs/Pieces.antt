@@ -115,6 +115,20 @@ pub piece-is : (m : ℕ) (s : List ℕ) (i : ℕ) → 0 < m → i < length (piec
 unfolding pieces
 piece-is m s i o h = piece-by (length s) m s i o (omega arith) h
 
+-- an empty unit is one piece too
+some-by : (n m : ℕ) (s : List ℕ) → 0 < length (piecesBy n m s)
+unfolding piecesBy
+some-by zero m s = omega arith
+some-by (suc n) m s = go (leb (length s) m)
+  where
+    go : (t : Bool) → 0 < length (cond t (s ∷ []) (take m s ∷ piecesBy n m (drop m s)))
+    go true = omega arith
+    go false = omega arith
+
+pub pieces-some : (m : ℕ) (s : List ℕ) → 0 < length (pieces m s)
+unfolding pieces
+pieces-some m s = some-by (length s) m s
+
 -- together they are the unit
 joined-by : (n m : ℕ) (s : List ℕ) → joined (piecesBy n m s) ≡ s
 unfolding piecesBy joined

@@ -4,3 +4,4 @@ pub mod Packet
 pub mod Packer
 pub mod Examples
 pub mod Reads
+pub mod Rejoins
