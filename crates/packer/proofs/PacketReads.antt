@@ -1,16 +1,16 @@
 -- A packet is read as it was meant: its flow, its MMTP header, its payload and its data unit.
-use Prim.Native.Nat.{ℕ, zero, suc, _+_, _-_, _*_, _/_, _%_, _^_, _≤_, _<_}
-use mathlib.Core.Path.{_≡_, refl, sym, _∙_, ap}
-use mathlib.Core.Bool.{Bool, true, false, cond, _&&_}
+use Prim.Native.Nat.{ℕ, zero, suc, _+_, _-_, _*_, _%_, _^_, _≤_, _<_}
+use mathlib.Core.Path.{_≡_, refl, sym, _∙_}
+use mathlib.Core.Bool.{Bool, true, false, cond}
 use mathlib.Core.List.{List, [], _∷_, _++_}
-use native.Mathlib.Nat.{zero-add, add-zero, mod-lt}
+use native.Mathlib.Nat.{mod-lt}
 use native.Mathlib.Omega.{arith}
 use borrow.Author.Tests.{le-leb, lt-ltb, eq-eqb, ne-eqb, eqb-true, eqb-false}
-use lib.ListN.{length, getD, drop, length-take}
-use lib.Dec.{eqb, leb}
+use lib.ListN.{length, getD, drop}
+use lib.Dec.{eqb}
 use lib.Seq.{getD-drop, drop-drop, drop-at}
 use Rattle.wire.specs.Bits.{bitsAt}
-use Rattle.wire.specs.Field.{be, bytesOf, be-2, be-drop, be-bytes}
+use Rattle.wire.specs.Field.{be, bytesOf, be-drop}
 use Rattle.mmtp.specs.declared.flow.Flow.the-variants.{Mmtp}
 use Rattle.mmtp.specs.declared.flow.Compressed.the-variants.{Start}
 use Rattle.mmtp.specs.declared.header.Header.{Header}
@@ -18,7 +18,6 @@ use Rattle.mmtp.specs.declared.header.HeaderRead.the-variants.{Good as GoodHead
 use Rattle.mmtp.specs.declared.payload.Indicator.{Indicator}
 use Rattle.mmtp.specs.declared.payload.Indicator.the-variants.{Whole, First, Middle, Last}
 use Rattle.mmtp.specs.declared.payload.FragmentType.the-variants.{Kind}
-use Rattle.mmtp.specs.declared.payload.Payload.{Payload}
 use Rattle.mmtp.specs.declared.payload.PayloadRead.the-variants.{Malformed as BadBody, Good as GoodBody}
 use Rattle.mmtp.specs.declared.unit.Fields.{Fields}
 use Rattle.mmtp.specs.Flow.{flowOf, compressedHeader, type-3, own-cid, behind-whole}
@@ -27,6 +26,9 @@ use Rattle.mmtp.specs.Payload.{indicatorOf, fragmentTypeOf, flag, counterFits, 
 use Rattle.mmtp.specs.Payload.{signallingOf, signalling-by, mpuOf, mpu-by, parsedOf, payloadOf, payload-good}
 use Rattle.mmtp.specs.Payload.{units-single, piecesOf, pieces-single}
 use Rattle.mmtp.specs.Packet.{bodyRead, watched}
+use Rattle.mmtp.specs.declared.watch.Watch.{Watch}
+use Rattle.mmtp.specs.declared.watch.Found.the-variants.{At}
+use Rattle.mmtp.specs.Watch.{lookupOf}
 use Rattle.mmtp.specs.Unit.{fieldBytes, noFields, timedFields as timedRead, itemFields, fieldsOf, pieceOf, singleFits}
 use Rattle.reassembly.specs.declared.unit.Unit.{Unit}
 use Rattle.reassembly.specs.declared.join.Piece.{Piece}
@@ -34,8 +36,8 @@ use Rattle.packer.specs.Packet.{outerHead, payloadType, mmtpHead, indica
 use Rattle.packer.specs.Packet.{payloadHead, payloadHeadBytes, timedFields, fieldsWritten, dataUnit, mmtpOf, packetOf}
 use Rattle.packer.specs.Pieces.{pieces, indicatorAt, counterAt, withPsn, pieceAt}
 use Rattle.packer.specs.Packer.{packetAt, packetsFrom, packets}
-use Rattle.packer.specs.Reads.{ownFields, Packable, meant, ReadAs, PacketRead, Sent, PacketsRead}
-use Rattle.packer.proofs.Pieces.{piece-is}
+use Rattle.packer.specs.Reads.{ownFields, Packable, meant, WholePacket, AllWhole, ReadAs, PacketRead, AllRead, PacketsRead}
+use Rattle.packer.proofs.Pieces.{AllMost, all-most, pieces-most}
 use Rattle.packer.proofs.Lengths.{head-4, head-not-4, sizes, length-payload-head, length-fields, length-unit}
 use Rattle.packer.proofs.Lengths.{length-mmtp, length-packet}
 use Rattle.packer.proofs.Wholes.{be-behind, packet-whole}
@@ -345,36 +347,29 @@ with-packable u i w =
       own-mpu = w .own-mpu;
     }
 
-module _ (u : Unit) (cid sn : ℕ) where
-  getD-packets : (n j : ℕ) (ps : List (List ℕ)) (i : ℕ) → i < length ps
-      → getD (packetsFrom u cid sn n j ps) i [] ≡ packetAt u cid sn n (j + i) (getD ps i [])
-  unfolding packetsFrom
-  getD-packets n j [] i h = absurd (omega arith)
-  getD-packets n j (s ∷ ps) zero h = rw add-zero
-  getD-packets n j (s ∷ ps) (suc i) h =
-      let e : j + suc i ≡ j + 1 + i = omega arith in
-      rw e (getD-packets n (j + 1) ps i (omega arith))
+module _ (u : Unit) (cid sn place : ℕ) (w : Watch) (o : Packable u) (c : cid < 4096)
+    (l : lookupOf w (u .«packet_id») ≡ At place) where
+  pub packet-at-read : (n i : ℕ) (s : List ℕ) → i < n → length s ≤ 1400
+      → WholePacket (packetAt u cid sn n i s) × ReadAs cid place w (pieceAt u n i (length s)) s (packetAt u cid sn n i s)
+  unfolding packetAt pieceAt withPsn
+  packet-at-read n i s k h =
+      let p = pieceAt u n i (length s) in
+      let v : (sn + i) % 16 < 16 = mod-lt (sn + i) (omega arith) in (
+        packet-whole cid ((sn + i) % 16) p s h,
+        packet-read cid ((sn + i) % 16) place w p s c v (with-packable u i o) (counter-fits n i k) h l,
+      )
 
-  length-packets : (n j : ℕ) (ps : List (List ℕ)) → length (packetsFrom u cid sn n j ps) ≡ length ps
+  reads-from : (n i : ℕ) (ps : List (List ℕ)) → i + length ps ≡ n → AllMost 1400 ps
+      → AllWhole (packetsFrom u cid sn n i ps) × AllRead cid place w u n i ps (packetsFrom u cid sn n i ps)
   unfolding packetsFrom
-  length-packets n j [] = refl
-  length-packets n j (s ∷ ps) = ap suc (length-packets n (j + 1) ps)
+  reads-from n i [] e h = (tt, tt)
+  reads-from n i (s ∷ ps) e h =
+      let a = packet-at-read n i s (omega arith) (h .0) in
+      let b = reads-from n (i + 1) ps (omega arith) (h .1) in
+      ((a .0, b .0), (a .1, b .1))
 
 pub packets-read : PacketsRead
-unfolding packets packetAt pieceAt withPsn
+unfolding packets
 packets-read u cid sn m place w s o c p h l =
     let ps = pieces m s in
-    let n = length ps in
-    let at : (i : ℕ) → i < n → getD (packetsFrom u cid sn n 0 ps) i [] ≡ packetAt u cid sn n i (getD ps i []) =
-    λ i k. getD-packets u cid sn n 0 ps i k ∙ rw zero-add in
-    let short : (i : ℕ) → i < n → length (getD ps i []) ≤ 1400 =
-    λ i k. omega (arith, ap length (piece-is m s i p k), length-take m (drop (i * m) s)) in
-    let part : ℕ → Piece = λ i. pieceAt u n i (length (getD ps i [])) in
-    record {
-      count = length-packets u cid sn n 0 ps;
-      whole = λ i k. rw (at i k) (packet-whole cid ((sn + i) % 16) (part i) (getD ps i []) (short i k));
-      read = λ i k.
-          rw (at i k)
-          (packet-read cid ((sn + i) % 16) place w (part i) (getD ps i []) c (mod-lt (sn + i) (omega arith)) (with-packable u i o)
-          (counter-fits n i k) (short i k) l);
-    }
+    reads-from u cid sn place w o c l (length ps) 0 ps (omega arith) (all-most m 1400 h ps (pieces-most m s p))

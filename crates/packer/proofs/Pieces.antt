@@ -1,8 +1,8 @@
 -- A unit's pieces: together they are the unit, and how many, how long and where they are.
 use Prim.Native.Nat.{ℕ, zero, suc, _+_, _-_, _*_, _/_, _<_, _≤_}
-use mathlib.Core.Path.{_≡_, refl, sym, _∙_, ap}
+use mathlib.Core.Path.{_≡_, refl, sym, ap}
 use mathlib.Core.Bool.{Bool, true, false, cond}
-use mathlib.Core.List.{List, [], _∷_, _++_, append-nil}
+use mathlib.Core.List.{List, [], _∷_, append-nil}
 use native.Mathlib.Nat.{suc-mul, zero-mul, add-comm, div-eq-of-lt, div-eq-sub-div, lt-mul-div-succ}
 use native.Mathlib.Omega.{arith}
 use borrow.Author.Tests.{leb-true, leb-false, le-leb}
@@ -114,6 +114,30 @@ piece-by (suc n) m s (suc i) o f h = go (leb (length s) m) refl h (piece-by n m 
 pub piece-is : (m : ℕ) (s : List ℕ) (i : ℕ) → 0 < m → i < length (pieces m s) → getD (pieces m s) i [] ≡ take m (drop (i * m) s)
 unfolding pieces
 piece-is m s i o h = piece-by (length s) m s i o (omega arith) h
+
+-- each has at most `m` bytes
+abbrev pub AllMost : ℕ → List (List ℕ) → Type 0
+AllMost m [] = Unit {0}
+AllMost m (s ∷ ss) = (length s ≤ m) × AllMost m ss
+
+pub all-most : (m n : ℕ) → m ≤ n → (ss : List (List ℕ)) → AllMost m ss → AllMost n ss
+all-most m n h [] a = tt
+all-most m n h (s ∷ ss) a = (omega (arith, a .0), all-most m n h ss (a .1))
+
+most-by : (n m : ℕ) (s : List ℕ) → 0 < m → length s ≤ n → AllMost m (piecesBy n m s)
+unfolding piecesBy
+most-by zero m s o f = (omega arith, tt)
+most-by (suc n) m s o f =
+    go (leb (length s) m) refl (λ h. most-by n m (drop m s) o (omega (arith, length-drop m s)))
+  where
+    go : (t : Bool) → leb (length s) m ≡ t → (m < length s → AllMost m (piecesBy n m (drop m s)))
+        → AllMost m (cond t (s ∷ []) (take m s ∷ piecesBy n m (drop m s)))
+    go true e r = (leb-true _ _ e, tt)
+    go false e r = (omega (arith, length-take m s), r (leb-false _ _ e))
+
+pub pieces-most : (m : ℕ) (s : List ℕ) → 0 < m → AllMost m (pieces m s)
+unfolding pieces
+pieces-most m s o = most-by (length s) m s o (omega arith)
 
 -- an empty unit is one piece too
 some-by : (n m : ℕ) (s : List ℕ) → 0 < length (piecesBy n m s)

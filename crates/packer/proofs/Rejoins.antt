@@ -1,17 +1,16 @@
 -- Why the packets of a unit give the unit: what each step does, and the open unit after packet `i`.
-use Prim.Native.Nat.{ℕ, zero, suc, _+_, _-_, _%_, _^_, _≤_, _<_}
+use Prim.Native.Nat.{ℕ, suc, _+_, _-_, _%_, _^_, _≤_, _<_}
 use mathlib.Core.Path.{_≡_, refl, sym, _∙_, ap}
-use mathlib.Core.Bool.{Bool, true, false, cond, _&&_}
+use mathlib.Core.Bool.{true, false}
 use mathlib.Core.List.{List, [], _∷_, _++_, map, append-assoc, append-nil}
-use native.Mathlib.Nat.{mod-eq-of-lt, add-zero, mod-add-mod}
+use native.Mathlib.Nat.{mod-eq-of-lt, add-zero}
 use native.Mathlib.Omega.{arith}
 use borrow.Author.Tests.{le-ltb, eq-eqb, ne-eqb}
 use lib.ListN.{length, length-append, length-map}
-use lib.Dec.{eqb, ltb}
 use Rattle.mmtp.specs.declared.header.Psn.{Psn}
 use Rattle.mmtp.specs.declared.payload.Indicator.the-variants.{Whole, First, Middle, Last}
 use Rattle.reassembly.specs.declared.unit.Unit.{Unit}
-use Rattle.reassembly.specs.declared.channel.Phase.the-variants.{Unheard, Waiting, Idle, Open}
+use Rattle.reassembly.specs.declared.channel.Phase.the-variants.{Idle, Open}
 use Rattle.reassembly.specs.declared.channel.Channel.{Channel}
 use Rattle.reassembly.specs.Unit.{agrees}
 use Rattle.reassembly.specs.Channel.{nextPsn, heard, gap}
@@ -35,18 +34,19 @@ module _ {A : Type 0} (limit : ℕ) (l : Line A) (a : A) (x : Input) (g : gap (l
   unfolding step joinOf acted notesOf
   step-whole i q = rw (g, i, q)
 
-  step-first : x .piece .indicator ≡ First → interrupted (l .channel .phase) ≡ 0 → x .piece .len ≤ limit → step limit l a x ≡ record {
-    line = record {
-      channel = record {
-        phase = Open;
-        last = x .piece .unit .psn;
-        current = record { unit = x .piece .unit; counter = x .piece .counter; len = x .piece .len };
-      };
-      labels = a ∷ [];
-      bytes = x .bytes;
-    };
-    events = [];
-  }
+  step-first : x .piece .indicator ≡ First → interrupted (l .channel .phase) ≡ 0 → x .piece .len ≤ limit
+      → step limit l a x ≡ record {
+        line = record {
+          channel = record {
+            phase = Open;
+            last = x .piece .unit .psn;
+            current = record { unit = x .piece .unit; counter = x .piece .counter; len = x .piece .len };
+          };
+          labels = a ∷ [];
+          bytes = x .bytes;
+        };
+        events = [];
+      }
   unfolding step joinOf acted begun notesOf
   step-first i q h = rw (g, i, q, le-ltb _ _ h)
 
@@ -275,7 +275,8 @@ module _ {A : Type 0} (limit place n : ℕ) (u : Unit) where
         let c : Channel = record { phase = Idle; last = u .psn; current = f place .channel .current } in
         let o : Line A = record { channel = c; labels = f place .labels; bytes = f place .bytes } in
         let t : List (Event A) = labelled (a ∷ []) (record { info = u; bytes = s }) ∷ [] in
-        let e : step limit (f place) a x ≡ record { line = o; events = t } = step-whole limit (f place) a x first-gap (rw (← k)) q ∙ rw b in
+        let e : step limit (f place) a x ≡ record { line = o; events = t } =
+        step-whole limit (f place) a x first-gap (rw (← k)) q ∙ rw b in
         let d : n - 1 ≡ 0 = omega arith in
         rw (append-nil s) (at-end f _ o (a ∷ []) s (runs f a 0 s [] _ _ refl e) refl (rw (d, b)))
 

@@ -1,15 +1,15 @@
 -- A unit's run, packet by packet.
-use Prim.Native.Nat.{ℕ, zero, suc, _+_, _*_, _%_, _<_, _≤_}
+use Prim.Native.Nat.{ℕ, _+_, _*_, _%_, _<_, _≤_}
 use mathlib.Core.Path.{_≡_, refl, sym, _∙_, ap}
 use mathlib.Core.List.{List, [], _∷_, _++_}
 use native.Mathlib.Nat.{suc-mul, zero-mul}
 use native.Mathlib.Numerals.{add-one}
 use native.Mathlib.Omega.{arith}
-use lib.ListN.{length, getD, take, drop, length-append}
+use lib.ListN.{length, take, drop, length-append}
 use lib.Seq.{drop-cons, drop-length}
 use Rattle.reassembly.specs.declared.unit.Unit.{Unit}
 use Rattle.packer.specs.Pieces.{pieces, pieceAt, withPsn}
-use Rattle.packer.specs.Packet.{packetOf, headBytes}
+use Rattle.packer.specs.Packet.{headBytes}
 use Rattle.packer.specs.declared.pack.Plan.{Plan}
 use Rattle.packer.specs.Packer.{packetAt, packetsFrom, packets, joined, run, Planned, planned}
 use Rattle.packer.proofs.Lengths.{length-packet}

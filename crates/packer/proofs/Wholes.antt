@@ -1,18 +1,20 @@
 -- A packet is a whole TLV packet: its length field is the length of what follows.
-use Prim.Native.Nat.{ℕ, _+_, _*_, _%_, _^_, _≤_, _<_}
+use Prim.Native.Nat.{ℕ, _+_, _*_, _^_, _≤_, _<_}
 use mathlib.Core.Path.{_≡_, refl, sym, _∙_, ap}
 use mathlib.Core.Bool.{true}
 use mathlib.Core.List.{List, [], _∷_, _++_}
 use native.Mathlib.Nat.{add-zero, mod-eq-of-lt}
 use native.Mathlib.Omega.{arith}
 use borrow.Author.Tests.{le-leb}
-use lib.ListN.{length, getD, drop}
-use lib.Seq.{drop-at}
-use Rattle.wire.specs.Field.{be, bytesOf, be-drop, be-bytes, length-bytesOf}
-use Rattle.tlv.specs.Packet.{goodFirst, total, marked, complete}
+use lib.ListN.{length, take, drop, drop-of-length-le}
+use lib.Seq.{take-all, drop-at}
+use Rattle.wire.specs.Field.{be, bytesOf, be-drop, be-bytes}
+use Rattle.tlv.specs.Packet.{goodFirst, total, marked, complete, cut}
+use Rattle.tlv.specs.Cuts.{cut-nil, cut-more, cut-append}
 use Rattle.reassembly.specs.declared.join.Piece.{Piece}
 use Rattle.packer.specs.Packet.{outerHead, mmtpOf, packetOf}
-use Rattle.packer.specs.Reads.{WholePacket, PacketWhole}
+use Rattle.packer.specs.Packer.{joined}
+use Rattle.packer.specs.Reads.{WholePacket, PacketWhole, JoinedCut}
 use Rattle.packer.proofs.Lengths.{sizes, length-mmtp, length-packet}
 
 -- a field behind `a`
@@ -48,3 +50,19 @@ packet-whole cid sn p s h =
     let t = total-packet cid sn p s h in
     let l : 4 ≤ length (packetOf cid sn p s) = omega (arith, length-packet cid sn p s, sizes (p .unit .kind)) in
     (first-marked cid sn p s, full (packetOf cid sn p s) l t, t)
+
+-- cut one after another
+cut-one : (b : List ℕ) → WholePacket b → cut b ≡ record { packets = b ∷ []; tail = []; good = true }
+cut-one b w =
+    let t : take (total b) b ≡ b = take-all (total b) b (omega (arith, w .2)) in
+    let l : length b ≤ total b = omega (arith, w .2) in
+    let d : drop (total b) b ≡ [] = drop-of-length-le b l in
+    cut-more b (w .1) ∙ rw (t, d, cut-nil, w .0) (unfold marked in refl)
+
+pub joined-cut : JoinedCut
+unfolding joined
+joined-cut [] w = cut-nil ∙ unfold marked in refl
+joined-cut (b ∷ bs) w =
+    let e = cut-one b (w .0) in
+    let i = joined-cut bs (w .1) in
+    cut-append b (joined bs) (rw e) ∙ rw (e, i)

@@ -1,13 +1,12 @@
 -- Units packed, computed.
 use Prim.Native.Nat.{ℕ}
 use mathlib.Core.Path.{_≡_, refl}
-use mathlib.Core.List.{List, [], _∷_, _++_}
-use lib.ListN.{length, replicate}
+use mathlib.Core.List.{List, [], _∷_}
+use lib.ListN.{replicate}
 use Rattle.wire.specs.Field.{bytesOf}
 use Rattle.wire.specs.Memory.{pasted}
 use Rattle.mmtp.specs.declared.unit.Fields.{Fields}
 use Rattle.reassembly.specs.declared.unit.Unit.{Unit}
-use Rattle.packer.specs.declared.pack.Packed.{Packed}
 use Rattle.packer.specs.Pieces.{piecesBy, pieces, indicatorAt, counterAt, withPsn, pieceAt}
 use Rattle.packer.specs.Packet.{outerHead, payloadType, mmtpHead, indicatorBits, fragmentBits, mpuHead}
 use Rattle.packer.specs.Packet.{signallingHead, payloadHead, timedFields, fieldsWritten, dataUnit, mmtpOf, packetOf}

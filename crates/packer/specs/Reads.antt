@@ -1,11 +1,11 @@
 -- What is claimed of packed units: each packet is a whole TLV packet, and is read as the packet that was meant.
 use Prim.Native.Nat.{ℕ, _+_, _^_, _≤_, _<_}
 use mathlib.Core.Path.{_≡_}
-use mathlib.Core.Bool.{Bool, true, false, cond}
+use mathlib.Core.Bool.{true, false, cond}
 use mathlib.Core.List.{List, [], _∷_}
-use lib.ListN.{length, getD, drop}
+use lib.ListN.{length, drop}
 use lib.Dec.{eqb}
-use Rattle.tlv.specs.Packet.{total, marked, complete}
+use Rattle.tlv.specs.Packet.{total, marked, complete, cut}
 use Rattle.mmtp.specs.declared.flow.Flow.the-variants.{Mmtp}
 use Rattle.mmtp.specs.declared.unit.Fields.{Fields}
 use Rattle.mmtp.specs.declared.packet.Packet.{Packet}
@@ -21,7 +21,7 @@ use Rattle.reassembly.specs.declared.unit.Unit.{Unit}
 use Rattle.reassembly.specs.declared.join.Piece.{Piece}
 use Rattle.packer.specs.Pieces.{pieces, pieceAt}
 use Rattle.packer.specs.Packet.{payloadHeadBytes, packetOf}
-use Rattle.packer.specs.Packer.{packets}
+use Rattle.packer.specs.Packer.{packets, joined}
 
 -- the fields with 0 where the kind has none
 unfoldable pub ownFields : ℕ → Fields → Fields
@@ -56,8 +56,16 @@ pub record Packable (u : Unit) : Type 0 where
 abbrev pub WholePacket : List ℕ → Type 0
 WholePacket b = (marked b ≡ true) × (complete b ≡ true) × (total b ≡ length b)
 
+abbrev pub AllWhole : List (List ℕ) → Type 0
+AllWhole [] = Prim.Unit {0}
+AllWhole (b ∷ bs) = WholePacket b × AllWhole bs
+
 abbrev pub PacketWhole : Type 0
 PacketWhole = (cid sn : ℕ) (p : Piece) (s : List ℕ) → length s ≤ 1400 → WholePacket (packetOf cid sn p s)
+
+-- whole packets one behind the other are cut into themselves
+abbrev pub JoinedCut : Type 0
+JoinedCut = (bs : List (List ℕ)) → AllWhole bs → cut (joined bs) ≡ record { packets = bs; tail = []; good = true }
 
 -- the packet that is meant, its packet_id at this place of the watch list
 abbrev pub meant : ℕ → Piece → Packet
@@ -89,15 +97,16 @@ PacketRead =
     → counterFits (p .indicator) (p .counter) ≡ true → length s ≤ 1400 → lookupOf w (p .unit .«packet_id») ≡ At place
     → ReadAs cid place w p s (packetOf cid sn p s)
 
--- the packets of a unit: there are as many as pieces, and each is a whole TLV packet and read as its piece
-pub record Sent (u : Unit) (cid sn m place : ℕ) (w : Watch) (s : List ℕ) : Type 0 where
-  pub count : length (packets u cid sn m s) ≡ length (pieces m s)
-  pub whole : (i : ℕ) → i < length (pieces m s) → WholePacket (getD (packets u cid sn m s) i [])
-  pub read : (i : ℕ) → i < length (pieces m s)
-      → let piece = getD (pieces m s) i [] in
-      ReadAs cid place w (pieceAt u (length (pieces m s)) i (length piece)) piece (getD (packets u cid sn m s) i [])
+-- packets of a unit of `n` pieces, from piece `i` on: each is read as its piece
+abbrev pub AllRead : ℕ → ℕ → Watch → Unit → ℕ → ℕ → List (List ℕ) → List (List ℕ) → Type 0
+AllRead cid place w u n i [] [] = Prim.Unit {0}
+AllRead cid place w u n i [] (b ∷ bs) = ⊥
+AllRead cid place w u n i (s ∷ ss) [] = ⊥
+AllRead cid place w u n i (s ∷ ss) (b ∷ bs) =
+    ReadAs cid place w (pieceAt u n i (length s)) s b × AllRead cid place w u n (i + 1) ss bs
 
 abbrev pub PacketsRead : Type 0
 PacketsRead =
     (u : Unit) (cid sn m place : ℕ) (w : Watch) (s : List ℕ) → Packable u → cid < 4096 → 0 < m → m ≤ 1400
-    → lookupOf w (u .«packet_id») ≡ At place → Sent u cid sn m place w s
+    → lookupOf w (u .«packet_id») ≡ At place
+    → AllWhole (packets u cid sn m s) × AllRead cid place w u (length (pieces m s)) 0 (pieces m s) (packets u cid sn m s)

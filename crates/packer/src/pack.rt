@@ -1,7 +1,7 @@
 // The packer's call: refusals 70 to 74, or a unit's packets one behind the other.
 ghost use mathlib.Core.Path.{_≡_};
 ghost use Prim.Native.Nat.{_+_, _*_, _≤_, _<_, _%_};
-ghost use lib.ListN.{length, take, drop};
+ghost use lib.ListN.{length};
 ghost use Rattle.packer.specs.Packer.{Planned, planned, plannedRun, Writes, packed, refusedWith, packOf};
 use crate::packet;
 use crate::piece;

@@ -1,6 +1,6 @@
 // The pieces of a unit: how many there are, what each holds, and how each is numbered.
 ghost use mathlib.Core.Path.{_≡_};
-ghost use Prim.Native.Nat.{_+_, _*_, _≤_, _<_};
+ghost use Prim.Native.Nat.{_+_, _≤_, _<_};
 ghost use lib.ListN.{length, take, drop};
 ghost use Rattle.packer.specs.Pieces.{countOf, indicatorAt, counterAt, pieceAt};
 use mmtp::header::Psn;
