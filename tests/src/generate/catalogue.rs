@@ -1,20 +1,24 @@
 //! The catalogue: a capture for each number, family by family in turn.
 
+use super::boundary;
 use super::broadcast::{self, Losses};
 use super::commands;
 use super::damage;
 use super::noise;
 use super::prng::Prng;
 
-pub const FAMILIES: [&str; 8] = [
+pub const FAMILIES: [&str; 11] = [
     "undamaged",
     "slots and frames lost",
     "packets damaged",
     "slots damaged",
     "commands damaged",
+    "refusals",
     "joining noise",
     "slot noise",
     "bytes",
+    "boundaries of held bytes",
+    "packets cut at every byte",
 ];
 
 pub fn family(number: u64) -> &'static str {
@@ -42,8 +46,11 @@ pub fn capture(number: u64) -> Vec<u8> {
             commands::damage(&mut rng, &mut list);
             list.concat()
         }
-        5 => damage::with_losses(&mut rng, &noise::joining(number)).concat(),
-        6 => noise::slots(number).concat(),
-        _ => noise::bytes(number),
+        5 => commands::refused(&mut rng).concat(),
+        6 => damage::with_losses(&mut rng, &noise::joining(number)).concat(),
+        7 => noise::slots(number).concat(),
+        8 => noise::bytes(number),
+        9 => boundary::held(number / FAMILIES.len() as u64).concat(),
+        _ => boundary::cuts(number).capture(),
     }
 }

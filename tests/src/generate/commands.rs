@@ -1,7 +1,8 @@
 //! A capture as a list of commands, and damage to the list.
 
+use super::layout;
 use super::prng::Prng;
-use super::sender::Config;
+use super::sender::{self, Config};
 use crate::packets::MAX_IDS;
 
 /// Each command with its operands.
@@ -85,6 +86,27 @@ pub fn damage_block(rng: &mut Prng, block: &mut [u8]) {
         }
         _ => block[rng.range(0, 40)] ^= 1 << rng.below(8),
     }
+}
+
+/// A short list that is likely to be refused: at C, at F, or at a call out of turn.
+pub fn refused(rng: &mut Prng) -> Commands {
+    let config = sender::config(rng);
+    let mut out = vec![start(&config)];
+    let mut block = layout::frame(rng, config.stream_id).block;
+    match rng.below(4) {
+        0 => damage_start(rng, &mut out[0]),
+        1 => {}
+        _ => damage_block(rng, &mut block),
+    }
+    let last = rng.pick(b"FXLSS");
+    out.push(frame(&block));
+    out.extend(vec![vec![b'L']; rng.pick(&[0, 1, 119, 120, 121])]);
+    out.push(match last {
+        b'F' => frame(&block),
+        b'S' => slot(&vec![0; rng.pick(&[0, 1, 1_870, 5_049])]),
+        _ => vec![last],
+    });
+    out
 }
 
 /// Changes the list: order, lengths, unknown commands, a cut at the end.

@@ -93,7 +93,7 @@ pub fn damage_spec(rng: &mut Prng, spec: &mut Spec) {
         12 => spec.head ^= 1,
         13 => spec.head ^= 1 << rng.below(8),
         14 => spec.set_indicator(rng.below(4) as u8),
-        15 => spec.counter = rng.pick(&[0, 1, 255, rng_byte(spec.free)]),
+        15 => spec.counter = rng.pick(&[0, 1, 2, 254, 255]),
         16 => spec.counter = spec.counter.wrapping_add(rng.pick(&[1, 255])),
         17 => spec.mpu ^= 1 << rng.below(32),
         18 => {
@@ -114,10 +114,6 @@ pub fn damage_spec(rng: &mut Prng, spec: &mut Spec) {
             }
         }
     }
-}
-
-fn rng_byte(seed: u64) -> u8 {
-    Prng::new(seed).byte()
 }
 
 /// Damages slots and pointers of a broadcast: bits, pointers, slots doubled, changed over, left out.

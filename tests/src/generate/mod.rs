@@ -1,5 +1,6 @@
 //! Generators of captures: undamaged broadcasts with what they carry, damage, boundary cases, noise.
 
+pub mod boundary;
 pub mod broadcast;
 pub mod catalogue;
 pub mod commands;

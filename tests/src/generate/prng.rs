@@ -7,7 +7,7 @@ impl Prng {
         Prng(seed.wrapping_mul(0x9E37_79B9_7F4A_7C15) ^ 0x5851_F42D_4C95_7F2D)
     }
 
-    pub fn next(&mut self) -> u64 {
+    pub fn u64(&mut self) -> u64 {
         self.0 = self.0.wrapping_add(0x9E37_79B9_7F4A_7C15);
         let mut z = self.0;
         z = (z ^ z >> 30).wrapping_mul(0xBF58_476D_1CE4_E5B9);
@@ -17,7 +17,7 @@ impl Prng {
 
     /// A number below `n`, which isn't 0.
     pub fn below(&mut self, n: usize) -> usize {
-        (u128::from(self.next()) * n as u128 >> 64) as usize
+        ((u128::from(self.u64()) * n as u128) >> 64) as usize
     }
 
     /// A number from `low` to `high`, both included.
@@ -35,20 +35,20 @@ impl Prng {
     }
 
     pub fn byte(&mut self) -> u8 {
-        self.next() as u8
+        self.u64() as u8
     }
 
     pub fn u16(&mut self) -> u16 {
-        self.next() as u16
+        self.u64() as u16
     }
 
     pub fn u32(&mut self) -> u32 {
-        self.next() as u32
+        self.u64() as u32
     }
 
     pub fn fill(&mut self, bytes: &mut [u8]) {
         for chunk in bytes.chunks_mut(8) {
-            let eight = self.next().to_le_bytes();
+            let eight = self.u64().to_le_bytes();
             chunk.copy_from_slice(&eight[..chunk.len()]);
         }
     }

@@ -190,7 +190,7 @@ impl Sender {
             mpu: 0,
             body: Vec::new(),
             cut: None,
-            free: rng.next(),
+            free: rng.u64(),
         }
     }
 
