@@ -196,7 +196,8 @@ fn a_psn_noted_52_is_not_recorded() {
 fn notes_60_to_64_in_pairs() {
     let long = [0u8; 101];
     let s = |psn, indicator, counter, bytes: &[u8]| signalling(9, psn, indicator, counter, bytes);
-    let cases: [(Vec<Vec<u8>>, &[u8], usize); 9] = [
+    type Case<'a> = (Vec<Vec<u8>>, &'a [u8], usize);
+    let cases: [Case; 9] = [
         (vec![s(1, 1, 1, b"a"), s(2, 1, 1, &long)], &[61, 64], 0),
         (vec![s(1, 1, 1, b"a"), s(3, 1, 1, &long)], &[60, 64], 0),
         (vec![s(1, 1, 1, b"a"), s(2, 0, 0, &long)], &[61], 1),

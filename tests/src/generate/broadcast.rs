@@ -84,6 +84,7 @@ pub fn undamaged(seed: u64, most: usize) -> Broadcast {
         .collect();
     let mut sender = Sender::new(Prng::new(seed ^ 0xB0), config);
     let head = head_len(&mut rng);
+    sender.edges = edges(&plans, head);
     sender.send_up_to(capacity(&plans).saturating_sub(head));
     let Sender {
         config,
@@ -102,6 +103,19 @@ pub fn head_len(rng: &mut Prng) -> usize {
         5 => rng.below(6_000),
         _ => rng.below(1_000),
     }
+}
+
+/// Where the own live slots end, counted from byte `head` of the row.
+pub fn edges(plans: &[FramePlan], head: usize) -> Vec<usize> {
+    let mut end = 0;
+    let slots = plans.iter().flat_map(|plan| &plan.slots);
+    slots
+        .filter(|slot| slot.own)
+        .filter_map(|slot| {
+            end += slot.len;
+            usize::checked_sub(end, head)
+        })
+        .collect()
 }
 
 /// Bytes of the plans' own live slots.

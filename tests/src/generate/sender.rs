@@ -46,6 +46,8 @@ pub struct Sender {
     pub items: Vec<Item>,
     pub units: Vec<Sent>,
     pub len: usize,
+    /// Lengths of the row at which a slot ends, rising; may be empty.
+    pub edges: Vec<usize>,
 }
 
 /// A random legal configuration that the capture program's memory suffices for.
@@ -91,6 +93,7 @@ impl Sender {
             items: Vec::new(),
             units: Vec::new(),
             len: 0,
+            edges: Vec::new(),
         }
     }
 
@@ -107,6 +110,7 @@ impl Sender {
             0 => self.null(),
             1 => self.other_packet(),
             2 => self.unwatched(),
+            3 => self.null_to_edge(),
             _ => {
                 let k = self.rng.below(self.sources.len());
                 if self.sources[k].open.is_some() {
@@ -138,6 +142,19 @@ impl Sender {
         };
         let data = self.rng.bytes(len);
         self.raw(0xFF, &data);
+    }
+
+    /// A null packet that ends with a slot, or a few bytes before, so that a header straddles.
+    fn null_to_edge(&mut self) {
+        let next = self.edges.partition_point(|&edge| edge < self.len + 8);
+        let Some(edge) = self.edges.get(next) else {
+            return;
+        };
+        let len = edge - self.len - 4 - self.rng.below(5);
+        if len <= 16_380 {
+            let data = self.rng.bytes(len);
+            self.raw(0xFF, &data);
+        }
     }
 
     /// Other TLV types, and packets of another flow, whatever they hold.
