@@ -25,14 +25,8 @@ fn config() -> Config {
     }
 }
 
-/// A frame all of whose live slots are the own stream's.
 fn full_frame(rng: &mut Prng) -> FramePlan {
-    loop {
-        let plan = layout::frame_of(rng, config().stream_id, &SHORTEST);
-        if plan.slots.iter().all(|slot| slot.own || slot.len == 0) {
-            return plan;
-        }
-    }
+    layout::full_frame_of(rng, config().stream_id, &SHORTEST)
 }
 
 /// Pairs of slots: the first ends with some bytes of a packet, the second goes on as the case says.

@@ -159,8 +159,8 @@ pub fn assemble(
     }
 }
 
-/// Slots with their data and pointers.
-fn cut(
+/// Cuts the row into the plans' own live slots, with their pointers.
+pub fn cut(
     rng: &mut Prng,
     plans: Vec<FramePlan>,
     row: &[u8],

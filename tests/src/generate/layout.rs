@@ -48,6 +48,16 @@ pub fn frame_of(rng: &mut Prng, stream_id: u16, modes: &[(u8, u8)]) -> FramePlan
     FramePlan { block, slots }
 }
 
+/// A legal frame with these modes, all of whose live slots are the own stream's.
+pub fn full_frame_of(rng: &mut Prng, stream_id: u16, modes: &[(u8, u8)]) -> FramePlan {
+    loop {
+        let plan = frame_of(rng, stream_id, modes);
+        if plan.slots.iter().all(|slot| slot.own || slot.len == 0) {
+            return plan;
+        }
+    }
+}
+
 /// Writes a slot's top and last pointer; `slot` counts from 0.
 pub fn set_pointers(block: &mut [u8], slot: usize, top: u16, last: u16) {
     let at = 153 + 4 * slot;
