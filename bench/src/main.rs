@@ -4,9 +4,10 @@
 //! in the same rounds.
 
 mod captures;
+mod clock;
 mod decoders;
 
-use std::time::{Duration, Instant};
+use std::time::Duration;
 
 use captures::Measured;
 use decoders::{Memories, Totals};
@@ -20,9 +21,9 @@ impl Best {
     }
 
     fn time<T>(&mut self, work: impl FnOnce() -> T) -> T {
-        let start = Instant::now();
+        let start = clock::now();
         let answer = work();
-        self.0 = self.0.min(start.elapsed());
+        self.0 = self.0.min(clock::now() - start);
         answer
     }
 
@@ -35,8 +36,8 @@ fn main() {
     let mut arguments = std::env::args().skip(1).map(|text| text.parse());
     let mut number = |otherwise| arguments.next().map_or(otherwise, |n| n.expect("a number"));
     let (frames, rounds) = (number(200), number(9));
-    println!("Each line: gigabytes of capture (commands and slot data) per second, the best of {rounds} rounds,");
-    println!("and its ratio to a plain copy of the whole capture into memory of the same length.");
+    println!("Each line: gigabytes of capture (commands and slot data) per second of processor time, the best");
+    println!("of {rounds} rounds, and its ratio to a plain copy of the whole capture into memory of the same length.");
     println!("A decoder reads the capture from memory to memory: start, frame, slot, next until nothing waits,");
     println!("show after each unit. Building captures, allocating memories and printing are not measured.");
     for measured in captures::all(frames) {

@@ -3,7 +3,7 @@
 use crate::control_block::{self, Layout, SlotPlan, BLOCK_LEN, SLOTS};
 use crate::joining::{Flow, Outcome};
 use crate::packets::{self, fields_len, unit_length, Packet, Reading, UnitFields, Watch, MAX_IDS};
-use crate::slots::{packet_total, Held, Taken, PACKET_MEMORY};
+use crate::slots::{packet_total, Stream, Taken, PACKET_MEMORY};
 use crate::Refusal;
 
 pub const MAX_CID: u16 = 4_095;
@@ -82,13 +82,12 @@ pub struct Receiver {
     owed: bool,
     /// Slots of the frame that were given; all of them, if none is due.
     given: usize,
-    held: Held,
+    stream: Stream,
     cid: u16,
     stream_id: u16,
     joined_max: usize,
     collecting: usize,
     watch: Watch,
-    ids: [u16; MAX_IDS],
     flows: [Flow; MAX_IDS],
     layout: Layout,
 }
@@ -120,13 +119,12 @@ pub fn start(
         waiting: Waiting::Nothing,
         owed: false,
         given: SLOTS,
-        held: Held::Searching,
+        stream: Stream::default(),
         cid,
         stream_id,
         joined_max: joined_max as usize,
         collecting: n * joined_max as usize,
         watch: Watch::new(watched),
-        ids: *ids,
         flows: [Flow::default(); MAX_IDS],
         layout: [SlotPlan::default(); SLOTS],
     })
@@ -145,7 +143,7 @@ impl Receiver {
     /// Lost frame: its slots are read as one lost own slot.
     pub fn lost_frame(&mut self) -> Result<(), Refusal> {
         self.between_frames()?;
-        self.taken = self.held.lose();
+        self.taken = self.stream.lose();
         self.owed = true;
         Ok(())
     }
@@ -171,7 +169,7 @@ impl Receiver {
             return Err(23);
         }
         if plan.own {
-            self.taken = self.held.take(data, plan.top, plan.last, packet_memory);
+            self.taken = self.stream.take(data, plan.top, plan.last, packet_memory);
         }
         self.count_slot();
         Ok(())
@@ -181,7 +179,7 @@ impl Receiver {
     pub fn lost_slot(&mut self, packet_memory: &[u8], collecting: &[u8]) -> Result<(), Refusal> {
         let plan = self.slot_due(packet_memory, collecting)?;
         if plan.own {
-            self.taken = self.held.lose();
+            self.taken = self.stream.lose();
         }
         self.count_slot();
         Ok(())
@@ -336,7 +334,7 @@ impl Receiver {
         let fields = UnitFields::read(packet.kind, &packet_memory[at..unit_end]);
         let at = at + fields_len(packet.kind);
         Unit {
-            packet_id: self.ids[packet.place],
+            packet_id: self.watch.id(packet.place),
             kind: packet.kind,
             psn: packet.psn,
             mpu: packet.mpu,
@@ -352,7 +350,7 @@ impl Receiver {
     fn joined_unit(&self, place: usize) -> Unit {
         let open = &self.flows[place].open;
         Unit {
-            packet_id: self.ids[place],
+            packet_id: self.watch.id(place),
             kind: open.kind,
             psn: open.psn,
             mpu: open.mpu,
@@ -365,7 +363,7 @@ impl Receiver {
     }
 
     fn note_of(&self, number: u8, place: usize) -> Event {
-        let packet_id = Some(self.ids[place]);
+        let packet_id = Some(self.watch.id(place));
         Event::Note { number, packet_id }
     }
 }

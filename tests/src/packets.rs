@@ -20,30 +20,55 @@ pub const FI_FIRST: u8 = 1;
 pub const FI_MIDDLE: u8 = 2;
 pub const FI_LAST: u8 = 3;
 
-/// The watched packet_ids, by place; places from `n` on are not looked at.
+/// No place; above every place.
+const NO_PLACE: u8 = MAX_IDS as u8;
+
+/// The watched packet_ids, by place, found by a hash of one byte.
 #[derive(Clone, Copy, Debug)]
 pub struct Watch {
     ids: [u16; MAX_IDS],
-    used: u32,
+    /// First place for each hash, and after each place the next of the same hash.
+    first: [u8; 256],
+    after: [u8; MAX_IDS],
+}
+
+#[inline(always)]
+fn hash(id: u16) -> usize {
+    usize::from((id ^ id >> 8) as u8)
 }
 
 impl Watch {
+    /// `ids` are at most 16, all different.
     pub fn new(ids: &[u16]) -> Self {
-        let mut all = [0; MAX_IDS];
-        all[..ids.len()].copy_from_slice(ids);
-        let used = (1 << ids.len()) - 1;
-        Watch { ids: all, used }
+        let mut watch = Watch {
+            ids: [0; MAX_IDS],
+            first: [NO_PLACE; 256],
+            after: [NO_PLACE; MAX_IDS],
+        };
+        for (k, &id) in ids.iter().enumerate() {
+            watch.ids[k] = id;
+            watch.after[k] = watch.first[hash(id)];
+            watch.first[hash(id)] = k as u8;
+        }
+        watch
     }
 
-    /// The id's place. All sixteen are compared at once, so that the search has no branch to miss.
+    /// The id's place.
     #[inline(always)]
     pub fn place(&self, id: u16) -> Option<usize> {
-        let mut equal = 0u32;
-        for (k, watched) in self.ids.iter().enumerate() {
-            equal |= u32::from(*watched == id) << k;
+        let mut k = usize::from(self.first[hash(id)]);
+        while k < MAX_IDS {
+            if self.ids[k] == id {
+                return Some(k);
+            }
+            k = usize::from(self.after[k]);
         }
-        equal &= self.used;
-        (equal != 0).then_some(equal.trailing_zeros() as usize)
+        None
+    }
+
+    #[inline(always)]
+    pub fn id(&self, place: usize) -> u16 {
+        self.ids[place]
     }
 }
 

@@ -9,8 +9,10 @@ pub const MAX_PACKET: usize = 16_384;
 pub const TLV_HEADER: usize = 4;
 /// Where a slot is copied to in packet memory; the bytes below are those of a continued packet.
 pub const SLOT_AT: usize = MAX_PACKET;
+/// The longest slot.
+pub const MAX_SLOT: usize = 5_049;
 /// Packet memory: a held packet and the longest slot.
-pub const PACKET_MEMORY: usize = 21_433;
+pub const PACKET_MEMORY: usize = SLOT_AT + MAX_SLOT;
 
 /// Length, header included, of the TLV packet at `at`, whose header is there.
 #[inline(always)]
@@ -89,13 +91,31 @@ enum Onward {
     Dropped(u8),
 }
 
-impl Held {
+/// The own stream: what is held, and room to save it in.
+#[derive(Clone, Debug)]
+pub struct Stream {
+    pub held: Held,
+    /// Held bytes that a new slot is copied over. The slot is copied before it is walked: a walk over
+    /// bytes that aren't in the cache waits for them packet by packet.
+    saved: [u8; MAX_SLOT],
+}
+
+impl Default for Stream {
+    fn default() -> Self {
+        Stream {
+            held: Held::Searching,
+            saved: [0; MAX_SLOT],
+        }
+    }
+}
+
+impl Stream {
     /// A lost slot, or a lost frame as one.
     pub fn lose(&mut self) -> Taken {
-        let note = if *self == Held::Searching { 0 } else { 40 };
-        *self = Held::Searching;
+        let searching = self.held == Held::Searching;
+        self.held = Held::Searching;
         Taken {
-            note,
+            note: if searching { 0 } else { 40 },
             ..Taken::default()
         }
     }
@@ -103,65 +123,76 @@ impl Held {
     /// An own live slot's data: moves and copies bytes in packet memory, and says what is to be read.
     #[inline]
     pub fn take(&mut self, data: &[u8], t: u16, last: u16, memory: &mut [u8]) -> Taken {
-        let mut taken = Taken::default();
-        match sound(data, t, last) {
-            None => {
-                taken.note = 41;
-                *self = Held::Searching;
-            }
-            Some(end) => {
-                self.go_on(data, t, last, memory, &mut taken);
-                if t != NO_POINTER {
-                    taken.at = SLOT_AT + usize::from(t);
-                    taken.end = SLOT_AT + end;
-                    taken.tail_note = self.hold_tail(data, end);
-                }
+        let (continued, slot) = memory.split_at_mut(SLOT_AT);
+        if let Held::Bytes { from, len } = self.held {
+            if from >= SLOT_AT {
+                let from = from - SLOT_AT;
+                self.saved[..len].copy_from_slice(&slot[from..from + len]);
             }
         }
-        memory[SLOT_AT..SLOT_AT + data.len()].copy_from_slice(data);
+        let slot = &mut slot[..data.len()];
+        slot.copy_from_slice(data);
+        let mut taken = Taken::default();
+        let Some(end) = sound(slot, t, last) else {
+            self.held = Held::Searching;
+            taken.note = 41;
+            return taken;
+        };
+        self.go_on(slot, t, last, continued, &mut taken);
+        if t != NO_POINTER {
+            taken.at = SLOT_AT + usize::from(t);
+            taken.end = SLOT_AT + end;
+            taken.tail_note = self.hold_tail(slot, end);
+        }
         taken
     }
 
     /// Held bytes meet a sound slot.
     #[inline]
-    fn go_on(&mut self, data: &[u8], t: u16, last: u16, memory: &mut [u8], taken: &mut Taken) {
-        let Held::Bytes { from, len } = *self else {
+    fn go_on(&mut self, slot: &[u8], t: u16, last: u16, continued: &mut [u8], taken: &mut Taken) {
+        let Held::Bytes { from, len } = self.held else {
             return;
         };
-        match onward(&memory[from..from + len], data, t, last) {
+        let in_place = from < SLOT_AT;
+        let held = if in_place {
+            &continued[from..from + len]
+        } else {
+            &self.saved[..len]
+        };
+        match onward(held, slot, t, last) {
             Onward::Dropped(note) => {
                 taken.note = note;
-                *self = Held::Searching;
+                self.held = Held::Searching;
             }
             Onward::Ends { total, end } => {
-                let part = end.min(data.len());
+                let part = end.min(slot.len());
                 if len > 0 {
-                    if from > 0 {
-                        memory.copy_within(from..from + len, 0);
+                    if !in_place {
+                        continued[..len].copy_from_slice(&self.saved[..len]);
                     }
-                    memory[len..len + part].copy_from_slice(&data[..part]);
+                    continued[len..len + part].copy_from_slice(&slot[..part]);
                 }
-                if end <= data.len() {
+                self.held = if end <= slot.len() {
                     taken.continued = total;
-                    *self = Held::Bytes { from: 0, len: 0 };
+                    Held::Bytes { from: 0, len: 0 }
                 } else {
                     let len = len + part;
-                    *self = Held::Bytes { from: 0, len };
-                }
+                    Held::Bytes { from: 0, len }
+                };
             }
         }
     }
 
     /// Holds what stands after the slot's last complete packet; 43 if it is known to be too long.
     #[inline]
-    fn hold_tail(&mut self, data: &[u8], end: usize) -> u8 {
-        let len = data.len() - end;
-        if len >= TLV_HEADER && packet_total(data, end) > MAX_PACKET {
-            *self = Held::Searching;
+    fn hold_tail(&mut self, slot: &[u8], end: usize) -> u8 {
+        let len = slot.len() - end;
+        if len >= TLV_HEADER && packet_total(slot, end) > MAX_PACKET {
+            self.held = Held::Searching;
             return 43;
         }
         let from = SLOT_AT + end;
-        *self = Held::Bytes { from, len };
+        self.held = Held::Bytes { from, len };
         0
     }
 }

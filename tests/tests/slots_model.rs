@@ -4,7 +4,7 @@
 
 use second::control_block::{decode, SlotPlan};
 use second::generate::catalogue::{capture, family};
-use second::slots::{Held, Taken, MAX_PACKET, PACKET_MEMORY, SLOT_AT};
+use second::slots::{Held, Stream, Taken, MAX_PACKET, PACKET_MEMORY, SLOT_AT};
 
 /// Notes and complete packets of a slot, in stream order.
 #[derive(Debug, PartialEq)]
@@ -198,7 +198,7 @@ fn machine_and_model_agree() {
         if !["slot noise", "boundaries of held bytes"].contains(&family(number)) {
             continue;
         }
-        let mut held = Held::Searching;
+        let mut stream = Stream::default();
         let mut memory = vec![0xAB; PACKET_MEMORY];
         let mut model = Model {
             held: None,
@@ -206,16 +206,16 @@ fn machine_and_model_agree() {
         };
         for (data, t, last) in own_slots(&capture(number)) {
             let (due, taken) = match data {
-                None => (model.lose(), held.lose()),
+                None => (model.lose(), stream.lose()),
                 Some(data) => (
                     model.take(&data, t.into(), last.into()),
-                    held.take(&data, t, last, &mut memory),
+                    stream.take(&data, t, last, &mut memory),
                 ),
             };
             let items = items_of(&taken, &memory);
             assert!(items == due, "capture {number}");
             assert!(memory == model.memory, "capture {number}");
-            match (held, &model.held) {
+            match (stream.held, &model.held) {
                 (Held::Searching, None) => {}
                 (Held::Bytes { from, len }, Some(bytes)) => {
                     assert!(memory[from..from + len] == bytes[..], "capture {number}");

@@ -5,7 +5,7 @@ mod common;
 use common::{block, flow, mmtp, mpu, read_packets, signalling, tlv};
 use second::control_block::decode;
 use second::packets::{read, Reading, Watch};
-use second::slots::{sound, Held, Taken, PACKET_MEMORY};
+use second::slots::{sound, Held, Stream, Taken, PACKET_MEMORY};
 
 /// MFU fields: movie fragment, sample, offset, priority, dependency.
 fn mfu(fragment: u32, sample: u32, bytes: &[u8]) -> Vec<u8> {
@@ -104,13 +104,14 @@ fn sound_slots() {
 fn unsound_slots_are_41() {
     let mut memory = vec![0; PACKET_MEMORY];
     for (t, last) in [(0, 1_869), (0xFFFF, 1_869)] {
-        let mut held = Held::Bytes { from: 0, len: 0 };
-        let taken = held.take(&slot(0, 1_866), t, last, &mut memory);
+        let mut stream = Stream::default();
+        stream.held = Held::Bytes { from: 0, len: 0 };
+        let taken = stream.take(&slot(0, 1_866), t, last, &mut memory);
         let due = Taken {
             note: 41,
             ..Taken::default()
         };
-        assert_eq!((taken, held), (due, Held::Searching));
+        assert_eq!((taken, stream.held), (due, Held::Searching));
     }
 }
 
