@@ -31,6 +31,7 @@ impl Memories {
 }
 
 /// Our decoder: start, frame, slot, next and show over the commands of the capture.
+#[inline(never)]
 pub fn second(capture: &[u8], memories: &mut Memories) -> Totals {
     let mut ids = [0; 16];
     for (k, id) in ids.iter_mut().enumerate() {

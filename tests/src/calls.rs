@@ -1,8 +1,10 @@
 //! Calls: start, frame, lost frame, slot, lost slot, next, show.
 
 use crate::control_block::{self, Layout, SlotPlan, BLOCK_LEN, SLOTS};
-use crate::joining::{Flow, Outcome};
-use crate::packets::{self, fields_len, unit_length, Packet, Reading, UnitFields, Watch, MAX_IDS};
+use crate::joining::{Flow, Step};
+use crate::packets::{
+    self, fields_len, unit_length, Packet, Reading, UnitFields, Watch, FI_WHOLE, MAX_IDS,
+};
 use crate::slots::{packet_total, Stream, Taken, PACKET_MEMORY};
 use crate::Refusal;
 
@@ -228,7 +230,10 @@ impl Receiver {
                 self.waiting = Waiting::Nothing;
                 Ok(self.note_of(number, place))
             }
-            Waiting::Units(units) => Ok(Event::Unit(self.give_unit(units, packet_memory))),
+            Waiting::Units(units) => {
+                self.waiting = Waiting::Nothing;
+                Ok(Event::Unit(self.give_unit(units, packet_memory)))
+            }
         }
     }
 
@@ -282,37 +287,35 @@ impl Receiver {
         collecting: &mut [u8],
     ) -> Option<Event> {
         let place = packet.place;
-        let body = &packet_memory[at + packet.at..end];
-        // With aggregation the indicator is FI 00, and the piece isn't looked at.
-        let piece = &body[fields_len(packet.kind).min(body.len())..];
+        let at = at + packet.at;
+        if packet.indicator == FI_WHOLE {
+            let units = Units { packet, at, end };
+            let note = self.flows[place].whole(packet.psn);
+            if note == 0 {
+                return Some(Event::Unit(self.give_unit(units, packet_memory)));
+            }
+            self.waiting = Waiting::Units(units);
+            return Some(self.note_of(note, place));
+        }
+        let body = &packet_memory[at..end];
+        let fields = UnitFields::read(packet.kind, body);
+        let piece = &body[fields_len(packet.kind)..];
         let area_at = place * self.joined_max;
         let area = &mut collecting[area_at..area_at + self.joined_max];
-        let fields = || UnitFields::read(packet.kind, body);
-        let step = self.flows[place].step(&packet, fields, piece, area);
-        match step.outcome {
-            Outcome::Whole => {
-                let units = Units {
-                    packet,
-                    at: at + packet.at,
-                    end,
-                };
-                if step.notes[0] == 0 {
-                    return Some(Event::Unit(self.give_unit(units, packet_memory)));
+        match self.flows[place].piece(&packet, fields, piece, area) {
+            Step::Silent => None,
+            Step::Joined => Some(Event::Unit(self.joined_unit(place))),
+            Step::Noted(first, second) => {
+                if second != 0 {
+                    let number = second;
+                    self.waiting = Waiting::Note { number, place };
                 }
-                self.waiting = Waiting::Units(units);
+                Some(self.note_of(first, place))
             }
-            Outcome::Joined => return Some(Event::Unit(self.joined_unit(place))),
-            Outcome::Nothing if step.notes[1] != 0 => {
-                let number = step.notes[1];
-                self.waiting = Waiting::Note { number, place };
-            }
-            Outcome::Nothing if step.notes[0] == 0 => return None,
-            Outcome::Nothing => {}
         }
-        Some(self.note_of(step.notes[0], place))
     }
 
-    /// The next unit of a whole packet; the rest goes on waiting.
+    /// The next unit of a whole packet; if there are more, they wait.
     #[inline(always)]
     fn give_unit(&mut self, units: Units, packet_memory: &[u8]) -> Unit {
         let Units { packet, at, end } = units;
@@ -323,14 +326,12 @@ impl Receiver {
                 .expect("the aggregate was walked before");
             (at + packet.prefix, at + packet.prefix + len)
         };
-        self.waiting = if unit_end < end {
-            Waiting::Units(Units {
+        if unit_end < end {
+            self.waiting = Waiting::Units(Units {
                 at: unit_end,
                 ..units
-            })
-        } else {
-            Waiting::Nothing
-        };
+            });
+        }
         let fields = UnitFields::read(packet.kind, &packet_memory[at..unit_end]);
         let at = at + fields_len(packet.kind);
         Unit {

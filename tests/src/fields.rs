@@ -3,7 +3,8 @@
 /// The 16-bit field at `at`; the caller has made sure that it is there.
 #[inline(always)]
 pub fn be16(bytes: &[u8], at: usize) -> u16 {
-    u16::from_be_bytes([bytes[at], bytes[at + 1]])
+    let two: [u8; 2] = bytes[at..at + 2].try_into().expect("two bytes");
+    u16::from_be_bytes(two)
 }
 
 /// The 32-bit field at `at`; the caller has made sure that it is there.

@@ -1,6 +1,6 @@
 //! Joining: the pieces of one watched packet_id to units; notes 60 to 64.
 
-use crate::packets::{Packet, UnitFields, FI_FIRST, FI_LAST, FI_WHOLE};
+use crate::packets::{Packet, UnitFields, FI_FIRST, FI_LAST};
 
 #[derive(Clone, Copy, Debug, PartialEq, Eq)]
 pub enum Phase {
@@ -24,26 +24,31 @@ pub struct OpenUnit {
 /// One watched packet_id.
 #[derive(Clone, Copy, Debug)]
 pub struct Flow {
-    pub phase: Phase,
+    phase: Phase,
     last_psn: u32,
     pub open: OpenUnit,
 }
 
-/// What comes of a packet beside its notes.
+/// What comes of a piece.
 #[derive(Clone, Copy, Debug, PartialEq, Eq)]
-pub enum Outcome {
-    Nothing,
-    /// The packet's own units are given.
-    Whole,
+pub enum Step {
+    Silent,
+    /// A note, and perhaps (not 0) a second one.
+    Noted(u8, u8),
     /// The open unit is given.
     Joined,
 }
 
-/// Up to two notes (0 for none), in order, then the outcome.
-#[derive(Clone, Copy, Debug, PartialEq, Eq)]
-pub struct Step {
-    pub notes: [u8; 2],
-    pub outcome: Outcome,
+impl Step {
+    /// The notes that aren't 0, in order.
+    #[inline(always)]
+    fn noted(first: u8, second: u8) -> Step {
+        match (first, second) {
+            (0, 0) => Step::Silent,
+            (0, note) => Step::Noted(note, 0),
+            _ => Step::Noted(first, second),
+        }
+    }
 }
 
 impl Default for Flow {
@@ -57,53 +62,66 @@ impl Default for Flow {
 }
 
 impl Flow {
-    /// Takes a good packet; `fields` and `bytes` are its piece's, unused with FI 00. `area` is where
-    /// this packet_id collects, R bytes.
+    /// (a) and (b): the psn is compared and recorded; gives 60 or 0.
     #[inline(always)]
-    pub fn step(
+    fn hear(&mut self, psn: u32) -> u8 {
+        let gap = self.phase != Phase::Unheard && psn != self.last_psn.wrapping_add(1);
+        self.last_psn = psn;
+        if gap {
+            self.phase = Phase::Waiting;
+            return 60;
+        }
+        0
+    }
+
+    /// The packet is heard, and starts something: an open unit is dropped. Gives 60, 61 or 0; never
+    /// both, since 60 leaves it waiting.
+    #[inline(always)]
+    fn hear_start(&mut self, psn: u32) -> u8 {
+        let note = self.hear(psn);
+        if self.phase == Phase::Open {
+            return 61;
+        }
+        note
+    }
+
+    /// FI 00: gives the note, if any, that comes before the packet's units.
+    #[inline(always)]
+    pub fn whole(&mut self, psn: u32) -> u8 {
+        let note = self.hear_start(psn);
+        self.phase = Phase::Idle;
+        note
+    }
+
+    /// FI 01, 10 or 11, with the piece's fields and bytes. `area` is where this packet_id collects, R
+    /// bytes.
+    #[inline(always)]
+    pub fn piece(
         &mut self,
         packet: &Packet,
-        fields: impl Fn() -> UnitFields,
+        fields: UnitFields,
         bytes: &[u8],
         area: &mut [u8],
     ) -> Step {
-        let mut first = 0;
-        if self.phase != Phase::Unheard && packet.psn != self.last_psn.wrapping_add(1) {
-            first = 60;
-            self.phase = Phase::Waiting;
+        if packet.indicator == FI_FIRST {
+            let note = self.hear_start(packet.psn);
+            self.open = OpenUnit {
+                kind: packet.kind,
+                counter: packet.counter,
+                psn: packet.psn,
+                mpu: packet.mpu,
+                fields,
+                len: 0,
+            };
+            return Step::noted(note, self.collect(bytes, area));
         }
-        self.last_psn = packet.psn;
-        let starts = packet.indicator == FI_WHOLE || packet.indicator == FI_FIRST;
-        if starts && self.phase == Phase::Open {
-            first = 61; // never beside 60, which left it waiting
+        match self.hear(packet.psn) {
+            0 => self.go_on(packet, fields, bytes, area),
+            note => Step::noted(note, 0), // now waiting: the piece itself is silent
         }
-        let (second, outcome) = match packet.indicator {
-            FI_WHOLE => {
-                self.phase = Phase::Idle;
-                (0, Outcome::Whole)
-            }
-            FI_FIRST => {
-                self.open = OpenUnit {
-                    kind: packet.kind,
-                    counter: packet.counter,
-                    psn: packet.psn,
-                    mpu: packet.mpu,
-                    fields: fields(),
-                    len: 0,
-                };
-                (self.collect(bytes, area), Outcome::Nothing)
-            }
-            _ => self.go_on(packet, fields(), bytes, area),
-        };
-        let notes = if first == 0 {
-            [second, 0]
-        } else {
-            [first, second]
-        };
-        Step { notes, outcome }
     }
 
-    /// FI 10 or 11.
+    /// FI 10 or 11 without a gap before it.
     #[inline(always)]
     fn go_on(
         &mut self,
@@ -111,11 +129,11 @@ impl Flow {
         fields: UnitFields,
         bytes: &[u8],
         area: &mut [u8],
-    ) -> (u8, Outcome) {
+    ) -> Step {
         if self.phase != Phase::Open {
             let note = if self.phase == Phase::Idle { 62 } else { 0 };
             self.phase = Phase::Waiting;
-            return (note, Outcome::Nothing);
+            return Step::noted(note, 0);
         }
         let open = &mut self.open;
         // A kind without some of these fields has 0 there, so the comparison can be the same for all.
@@ -126,15 +144,15 @@ impl Flow {
             && packet.counter.wrapping_add(1) == open.counter;
         if !agrees {
             self.phase = Phase::Waiting;
-            return (63, Outcome::Nothing);
+            return Step::noted(63, 0);
         }
         open.counter = packet.counter;
         let note = self.collect(bytes, area);
         if note == 0 && packet.indicator == FI_LAST {
             self.phase = Phase::Idle;
-            return (0, Outcome::Joined);
+            return Step::Joined;
         }
-        (note, Outcome::Nothing)
+        Step::noted(note, 0)
     }
 
     /// Appends a piece, or writes nothing and gives 64.

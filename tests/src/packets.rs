@@ -86,11 +86,8 @@ pub struct UnitFields {
 /// Bytes that the fields of a kind take.
 #[inline(always)]
 pub fn fields_len(kind: u8) -> usize {
-    match kind {
-        KIND_TIMED => 14,
-        KIND_ITEM => 4,
-        _ => 0,
-    }
+    const BY_KIND: [u8; 8] = [0, 0, 14, 4, 0, 0, 0, 0];
+    usize::from(BY_KIND[usize::from(kind & 7)])
 }
 
 impl UnitFields {
@@ -143,55 +140,18 @@ pub enum Reading {
 /// Reads one complete TLV packet.
 #[inline(always)]
 pub fn read(packet: &[u8], cid: u16, watch: &Watch) -> Reading {
-    if packet[1] != TYPE_COMPRESSED_IP {
-        return Reading::Silent;
-    }
-    let Some(&[c0, c1, header_type]) = packet.get(TLV_HEADER..TLV_HEADER + 3) else {
-        return Reading::Noted(50);
+    let (mmtp, at) = match shortest_headers(packet, cid) {
+        Some(headers) => headers,
+        None => match any_headers(packet, cid) {
+            Ok(headers) => headers,
+            Err(reading) => return reading,
+        },
     };
-    if u16::from_be_bytes([c0, c1]) >> 4 != cid {
-        return Reading::Silent;
-    }
-    let start = TLV_HEADER
-        + match header_type {
-            0x61 => 3,
-            0x21 => 5,
-            0x20 => 23,
-            0x60 => 45,
-            _ => return Reading::Noted(50),
-        };
-    if packet.len() < start {
-        return Reading::Noted(50);
-    }
-    read_mmtp(packet, start, watch)
-}
-
-#[inline(always)]
-fn read_mmtp(packet: &[u8], start: usize, watch: &Watch) -> Reading {
-    let mmtp = &packet[start..];
-    let Some(header) = mmtp.first_chunk::<MMTP_HEADER>() else {
-        return Reading::Noted(51);
-    };
-    let (version, fec) = (header[0] >> 6, header[0] >> 3 & 3);
-    if version != 0 || fec != 0 {
-        return Reading::Noted(51);
-    }
-    let (with_counter, with_extension) = (header[0] >> 5 & 1 == 1, header[0] >> 1 & 1 == 1);
-    let mut at = MMTP_HEADER + if with_counter { 4 } else { 0 };
-    if with_extension {
-        if mmtp.len() < at + 4 {
-            return Reading::Noted(51);
-        }
-        at += 4 + usize::from(be16(mmtp, at + 2));
-    }
-    if mmtp.len() < at {
-        return Reading::Noted(51);
-    }
-    let Some(place) = watch.place(be16(header, 2)) else {
+    let Some(place) = watch.place(be16(&mmtp, 2)) else {
         return Reading::Silent;
     };
-    let payload = &mmtp[at..];
-    let read = match header[1] & 0x3F {
+    let payload = &packet[at..];
+    let read = match mmtp[1] & 0x3F {
         0 => read_mpu(payload),
         2 => read_signalling(payload),
         _ => None,
@@ -199,12 +159,72 @@ fn read_mmtp(packet: &[u8], start: usize, watch: &Watch) -> Reading {
     match read {
         Some(p) => Reading::Good(Packet {
             place,
-            psn: be32(header, 8),
-            at: start + at + p.at,
+            psn: be32(&mmtp, 8),
+            at: at + p.at,
             ..p
         }),
         None => Reading::BadPayload(place),
     }
+}
+
+/// MMTP's first 12 bytes, and where its payload starts.
+type Headers = ([u8; MMTP_HEADER], usize);
+
+/// The headers of most packets of the flow, taken at one go: header type 0x61, no counter, no
+/// extension. None if they are others, good or not.
+#[inline(always)]
+fn shortest_headers(packet: &[u8], cid: u16) -> Option<Headers> {
+    let headers = packet.first_chunk::<{ TLV_HEADER + 3 + MMTP_HEADER }>()?;
+    let same_flow = headers[1] == TYPE_COMPRESSED_IP && be16(headers, 4) >> 4 == cid;
+    let version_c_fec_x = headers[7] & 0xFA;
+    if !same_flow || headers[6] != 0x61 || version_c_fec_x != 0 {
+        return None;
+    }
+    let mmtp = headers.last_chunk::<MMTP_HEADER>()?;
+    Some((*mmtp, headers.len()))
+}
+
+/// All headers up to MMTP's payload, or why there is none.
+#[inline(never)]
+fn any_headers(packet: &[u8], cid: u16) -> Result<Headers, Reading> {
+    if packet[1] != TYPE_COMPRESSED_IP {
+        return Err(Reading::Silent);
+    }
+    let Some(&[c0, c1, header_type]) = packet.get(TLV_HEADER..TLV_HEADER + 3) else {
+        return Err(Reading::Noted(50));
+    };
+    if u16::from_be_bytes([c0, c1]) >> 4 != cid {
+        return Err(Reading::Silent);
+    }
+    let start = TLV_HEADER
+        + match header_type {
+            0x20 => 23,
+            0x21 => 5,
+            0x60 => 45,
+            0x61 => 3,
+            _ => return Err(Reading::Noted(50)),
+        };
+    let mmtp = packet.get(start..).ok_or(Reading::Noted(50))?;
+    let (header, payload_at) = mmtp_header(mmtp).ok_or(Reading::Noted(51))?;
+    Ok((header, start + payload_at))
+}
+
+/// The MMTP header; none is 51.
+fn mmtp_header(mmtp: &[u8]) -> Option<Headers> {
+    let header = mmtp.first_chunk::<MMTP_HEADER>()?;
+    let (version, fec) = (header[0] >> 6, header[0] >> 3 & 3);
+    if version != 0 || fec != 0 {
+        return None;
+    }
+    let (with_counter, with_extension) = (header[0] >> 5 & 1 == 1, header[0] >> 1 & 1 == 1);
+    let mut at = MMTP_HEADER + if with_counter { 4 } else { 0 };
+    if with_extension {
+        if mmtp.len() < at + 4 {
+            return None;
+        }
+        at += 4 + usize::from(be16(mmtp, at + 2));
+    }
+    (at <= mmtp.len()).then_some((*header, at))
 }
 
 /// Payload type 0; none is 52.
