@@ -28,7 +28,7 @@ fn packets_of_every_form() {
         let mut rng = Prng::new(seed);
         let config = config(&mut rng);
         let mut sender = Sender::new(rng, config);
-        sender.send_up_to(60_000);
+        sender.send_up_to(100_000);
         for item in &sender.items {
             match item {
                 Item::Raw(bytes) => {

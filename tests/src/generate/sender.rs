@@ -37,6 +37,8 @@ struct Source {
     psn: u32,
     mpu: u32,
     open: Option<Open>,
+    /// Nothing is sent before the row has this length: units stay open over many slots.
+    quiet_until: usize,
 }
 
 pub struct Sender {
@@ -83,6 +85,7 @@ impl Sender {
                     psn: rng.pick(&[0, u32::MAX - 5, u32::MAX, psn]),
                     mpu: rng.pick(&[0, u32::MAX, mpu]),
                     open: None,
+                    quiet_until: 0,
                 }
             })
             .collect();
@@ -112,7 +115,9 @@ impl Sender {
             2 => self.unwatched(),
             3 => self.null_to_edge(),
             _ => {
-                let k = self.rng.below(self.sources.len());
+                let Some(k) = self.next_source() else {
+                    return self.unwatched();
+                };
                 if self.sources[k].open.is_some() {
                     self.piece(k);
                 } else if self.rng.chance(1, 3) {
@@ -122,6 +127,12 @@ impl Sender {
                 }
             }
         }
+    }
+
+    /// A source that has something to say now.
+    fn next_source(&mut self) -> Option<usize> {
+        let k = self.rng.below(self.sources.len());
+        (self.sources[k].quiet_until <= self.len).then_some(k)
     }
 
     fn push(&mut self, item: Item) {
@@ -365,7 +376,11 @@ impl Sender {
         if is_last {
             self.units.push(open.sent);
         } else {
+            let left = open.pieces.len();
             self.sources[k].open = Some(open);
+            if self.rng.chance(1, 2 + left * left) {
+                self.sources[k].quiet_until = self.len + self.rng.range(2_000, 12_000);
+            }
         }
     }
 }
