@@ -46,7 +46,9 @@ fn packets_of_every_form() {
                         count(&mut counts, format!("C and X {flags:#x}"), seen);
                     }
                     let watched = sender.config.ids.contains(&spec.packet_id);
+                    let own = spec.cid == sender.config.cid;
                     count(&mut counts, "packet_id not watched", !watched);
+                    count(&mut counts, "good but for its CID", watched && !own);
                     let aggregate = spec.head & 1 == 1 && watched;
                     let wide = spec.signalling() && spec.head & 2 == 2;
                     count(&mut counts, "aggregate, 16-bit lengths", aggregate && !wide);

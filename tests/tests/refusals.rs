@@ -255,4 +255,9 @@ fn cutter_pointers() {
     assert_eq!(cut(&run, 1_870, 0, &mut out), Ok((0, 0xFFFF)));
     assert_eq!(cut(&run, 1_870, 1, &mut out), Ok((1_868, 1_868)));
     assert_eq!(cut(&run, 1_870, 2, &mut out), Ok((0xFFFF, 1_870)));
+    // A packet that ended just before the slot doesn't end in it.
+    let run = [tlv(0xFF, &[0; 1_866]), tlv(0xFF, &[0; 3_736])].concat();
+    assert_eq!(cut(&run, 1_870, 0, &mut out), Ok((0, 1_870)));
+    assert_eq!(cut(&run, 1_870, 1, &mut out), Ok((0, 0xFFFF)));
+    assert_eq!(cut(&run, 1_870, 2, &mut out), Ok((0xFFFF, 1_870)));
 }

@@ -53,6 +53,38 @@ fn version_1_is_51() {
     assert_eq!(read(&packet, 5, &Watch::new(&[8])), Reading::Noted(51));
 }
 
+/// Every first byte of MMTP, with the short header and with another one.
+#[test]
+fn every_mmtp_first_byte() {
+    let watch = Watch::new(&[9]);
+    for (header_type, addresses) in [(0x61, 0), (0x21, 2)] {
+        for flags in 0..=255u8 {
+            let mut data = vec![0, 0x50, header_type];
+            data.extend(vec![0xEE; addresses]);
+            data.extend([flags, 0xC2, 0, 9, 0, 0, 0, 0, 0, 0, 0, 1]);
+            let mut due = 4 + data.len() + 2;
+            if flags & 0x20 != 0 {
+                data.extend([0xEE; 4]);
+                due += 4;
+            }
+            if flags & 0x02 != 0 {
+                data.extend([0xEE, 0xEE, 0, 3, 0xEE, 0xEE, 0xEE]);
+                due += 7;
+            }
+            data.extend([0, 0, 0x55]);
+            let reading = read(&tlv(3, &data), 5, &watch);
+            if flags & 0b1101_1000 != 0 {
+                assert_eq!(reading, Reading::Noted(51), "{flags:#x}");
+                continue;
+            }
+            let Reading::Good(good) = reading else {
+                panic!("{flags:#x}: {reading:?}");
+            };
+            assert_eq!((good.at, good.psn, good.kind), (due, 1, 4), "{flags:#x}");
+        }
+    }
+}
+
 #[test]
 fn mpu_byte_2a_and_2b() {
     let watch = Watch::new(&[9]);
@@ -288,12 +320,18 @@ fn kinds_and_their_fields() {
 fn payloads_noted_52() {
     let watch = Watch::new(&[9]);
     let signal = |rest: &[u8]| flow(&[&mmtp(2, 9, 1)[..], rest].concat());
-    let mut wrong_length = mpu(9, 1, 0, 0, 3, b"ab");
-    wrong_length[4 + 3 + 12 + 1] += 1;
+    let with_length = |add: u8| {
+        let mut packet = mpu(9, 1, 0, 0, 3, b"ab");
+        packet[4 + 3 + 12 + 1] = 8u8.wrapping_add(add);
+        packet
+    };
+    assert_eq!(with_length(0), mpu(9, 1, 0, 0, 3, b"ab"));
     let bad = [
         flow(&mmtp(1, 9, 1)),
         flow(&mmtp(0, 9, 1)),
-        wrong_length,
+        with_length(1),
+        with_length(255),
+        with_length(254),
         mpu(9, 1, 0x30, 0, 3, b""),
         mpu(9, 1, 0x28, 0, 3, &[0; 13]),
         mpu(9, 1, 0x20, 0, 3, &[0; 3]),
@@ -322,6 +360,35 @@ fn payloads_noted_52() {
         assert_eq!(reading, Reading::BadPayload(0), "case {i}");
         let unwatched = read(packet, 5, &Watch::new(&[8]));
         assert_eq!(unwatched, Reading::Silent, "case {i}");
+    }
+}
+
+#[test]
+fn another_flow_is_silent() {
+    let watch = Watch::new(&[9]);
+    let good = signalling(9, 1, 0, 0, b"ab");
+    for cid in 0..4_096 {
+        let silent = read(&good, cid, &watch) == Reading::Silent;
+        assert_eq!(silent, cid != 5);
+    }
+    let mut other_type = good.clone();
+    for tlv_type in 0..=255 {
+        other_type[1] = tlv_type;
+        let silent = read(&other_type, 5, &watch) == Reading::Silent;
+        assert_eq!(silent, tlv_type != 3);
+    }
+}
+
+/// Ids of the same hash, ids at the ends, and none that isn't watched.
+#[test]
+fn watched_ids_and_no_others() {
+    let ids = [
+        0, 0x0101, 0x0202, 0xFFFF, 0x1234, 0x3412, 0x2600, 0x0026, 1, 256,
+    ];
+    let watch = Watch::new(&ids);
+    for id in 0..=0xFFFF {
+        let place = ids.iter().position(|&watched| watched == id);
+        assert_eq!(watch.place(id), place, "{id}");
     }
 }
 

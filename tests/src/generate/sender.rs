@@ -180,18 +180,20 @@ impl Sender {
         self.raw(tlv_type, &data);
     }
 
-    /// A good MMTP header of a packet_id that isn't watched, before anything.
+    /// A packet that differs from a good one in its packet_id, or in its CID alone.
     fn unwatched(&mut self) {
         let id = self.rng.u16();
-        if self.config.ids.contains(&id) {
-            return;
-        }
-        let mut spec = self.spec(0, 0);
+        let k = self.rng.below(self.sources.len());
+        let mut spec = self.spec(k, KIND_SIGNALLING);
         let len = self.rng.below(60);
-        spec.packet_id = id;
-        spec.payload_type = self.rng.byte();
-        spec.head = self.rng.byte();
         spec.body = self.rng.bytes(len);
+        if self.config.ids.contains(&id) || self.rng.chance(1, 2) {
+            spec.cid ^= 1 << self.rng.below(12);
+        } else {
+            spec.packet_id = id;
+            spec.payload_type = self.rng.byte();
+            spec.head = self.rng.byte();
+        }
         self.push(Item::Flow(Box::new(spec)));
     }
 
