@@ -12,6 +12,13 @@ use std::time::Duration;
 use captures::Measured;
 use decoders::{Memories, Totals};
 
+/// What the figures mean.
+const WHAT: &str = "\
+Each line: gigabytes of capture (commands and slot data) per second of processor time, and the ratio
+to a plain copy of the whole capture into memory of the same length. A decoder reads the capture from
+memory to memory: start, frame, slot, next until nothing waits, show after each unit. Building
+captures, allocating memories and printing are not measured.";
+
 /// The shortest of all rounds: what the machine does when nobody disturbs it.
 struct Best(Duration);
 
@@ -36,10 +43,8 @@ fn main() {
     let mut arguments = std::env::args().skip(1).map(|text| text.parse());
     let mut number = |otherwise| arguments.next().map_or(otherwise, |n| n.expect("a number"));
     let (frames, rounds) = (number(200), number(9));
-    println!("Each line: gigabytes of capture (commands and slot data) per second of processor time, the best");
-    println!("of {rounds} rounds, and its ratio to a plain copy of the whole capture into memory of the same length.");
-    println!("A decoder reads the capture from memory to memory: start, frame, slot, next until nothing waits,");
-    println!("show after each unit. Building captures, allocating memories and printing are not measured.");
+    println!("{WHAT}");
+    println!("The best of {rounds} rounds is given.");
     for measured in captures::all(frames) {
         measure(&measured, rounds);
     }

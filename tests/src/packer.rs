@@ -2,6 +2,7 @@
 
 use crate::calls::MAX_CID;
 use crate::packets::{fields_len, UnitFields, KIND_ITEM, KIND_SIGNALLING, KIND_TIMED};
+use crate::packets::{FI_FIRST, FI_LAST, FI_MIDDLE, FI_WHOLE};
 use crate::Refusal;
 
 pub const MAX_PIECE: usize = 1_400;
@@ -54,12 +55,6 @@ pub fn pack(
     let mut at = 0;
     for i in 0..pieces {
         let piece = &unit[i * m..unit.len().min((i + 1) * m)];
-        let indicator = match (i == 0, i + 1 == pieces) {
-            (true, true) => 0,
-            (true, false) => 1,
-            (false, false) => 2,
-            (false, true) => 3,
-        };
         let numbers = Numbers {
             sn: numbers.sn.wrapping_add(i as u8),
             psn: numbers.psn.wrapping_add(i as u32),
@@ -67,10 +62,20 @@ pub fn pack(
         };
         let mut writer = Writer { out, at };
         writer.headers(head, before + piece.len(), numbers);
-        writer.payload(head, piece, indicator, (pieces - 1 - i) as u8);
+        writer.payload(head, piece, indicator(i, pieces), (pieces - 1 - i) as u8);
         at = writer.at;
     }
     Ok(at)
+}
+
+/// FI of piece `i`, from 0.
+fn indicator(i: usize, pieces: usize) -> u8 {
+    match (i == 0, i + 1 == pieces) {
+        (true, true) => FI_WHOLE,
+        (true, false) => FI_FIRST,
+        (false, false) => FI_MIDDLE,
+        (false, true) => FI_LAST,
+    }
 }
 
 fn payload_header_len(kind: u8) -> usize {

@@ -62,7 +62,8 @@ fn compare(program: &Path, first: u64, count: u64) -> io::Result<bool> {
     for (family, count) in &compared {
         println!("{count:8} {family}");
     }
-    println!("{count} captures compared, {capture_bytes} bytes, {line_bytes} bytes of lines: no difference");
+    println!("{count} captures compared, no difference");
+    println!("{capture_bytes} bytes of captures, {line_bytes} bytes of lines");
     Ok(true)
 }
 
