@@ -1,0 +1,28 @@
+-- The line of an event: "frame slot unit id kind psn mpu length", "frame slot note number id", "refused N".
+use Prim.Native.Nat.{ℕ}
+use mathlib.Core.List.{List}
+use lib.ListN.{length}
+use Rattle.receiver.specs.declared.answer.Event.{Event}
+use Rattle.receiver.specs.declared.answer.Event.the-variants.{Nothing as Waits-nothing, Note as Noted, Unit as Gives, Refused as Refuses}
+use Rattle.receiver.specs.declared.answer.Given.{Given}
+use Rattle.receiver.specs.Show.{showOf}
+use Rattle.worked_example.specs.declared.line.UnitLine.{UnitLine}
+use Rattle.worked_example.specs.declared.line.Line.{Line}
+use Rattle.worked_example.specs.declared.line.Line.the-variants.{Unit, Note, Refused, Nothing}
+
+-- the length is that of the bytes from show
+abbrev pub unitLine : Given → List ℕ → List ℕ → UnitLine
+unitLine g p c =
+    record {
+      id = g .unit .«packet_id»;
+      kind = g .unit .kind;
+      psn = g .unit .psn .0;
+      mpu = g .unit .mpu;
+      length = length (showOf p c (g .place));
+    }
+
+abbrev pub lineOf : Event → List ℕ → List ℕ → Line
+lineOf Waits-nothing p c = Nothing
+lineOf (Noted n id) p c = Note n id
+lineOf (Gives g) p c = Unit (unitLine g p c)
+lineOf (Refuses n) p c = Refused n
