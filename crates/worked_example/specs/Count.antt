@@ -1,7 +1,7 @@
 -- "end frames units notes".
 use Prim.Native.Nat.{ℕ, _+_}
 use mathlib.Core.Bool.{cond}
-use lib.Dec.{ltb}
+use lib.Dec.{eqb, ltb}
 use Rattle.worked_example.specs.declared.counts.Counts.{Counts}
 use Rattle.worked_example.specs.declared.line.Line.{Line}
 use Rattle.worked_example.specs.declared.line.Line.the-variants.{Unit, Note, Refused, Nothing}
@@ -10,9 +10,12 @@ use Rattle.worked_example.specs.declared.line.Line.the-variants.{Unit, N
 unfoldable pub oneMore : ℕ → ℕ
 oneMore n = cond (ltb n 18446744073709551615) (n + 1) n
 
-abbrev pub withFrame : Counts → Counts
-withFrame c = record { frames = oneMore (c .frames); units = c .units; notes = c .notes }
+-- the frame more, if it was not refused
+abbrev pub withFrame : ℕ → Counts → Counts
+withFrame refusal c =
+    cond (eqb refusal 0) (record { frames = oneMore (c .frames); units = c .units; notes = c .notes }) c
 
+-- the line's unit or note more
 abbrev pub withLine : Line → Counts → Counts
 withLine (Unit u) c = record { frames = c .frames; units = oneMore (c .units); notes = c .notes }
 withLine (Note n id) c = record { frames = c .frames; units = c .units; notes = oneMore (c .notes) }

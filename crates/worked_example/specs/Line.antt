@@ -3,7 +3,7 @@ use Prim.Native.Nat.{ℕ}
 use mathlib.Core.List.{List}
 use lib.ListN.{length}
 use Rattle.receiver.specs.declared.answer.Event.{Event}
-use Rattle.receiver.specs.declared.answer.Event.the-variants.{Nothing as Waits-nothing, Note as Noted, Unit as Gives, Refused as Refuses}
+use Rattle.receiver.specs.declared.answer.Event.the-variants.{Nothing as Idle, Note as Noted, Unit as Given-unit, Refused as Denied}
 use Rattle.receiver.specs.declared.answer.Given.{Given}
 use Rattle.receiver.specs.Show.{showOf}
 use Rattle.worked_example.specs.declared.line.UnitLine.{UnitLine}
@@ -22,7 +22,7 @@ unitLine g p c =
     }
 
 abbrev pub lineOf : Event → List ℕ → List ℕ → Line
-lineOf Waits-nothing p c = Nothing
+lineOf Idle p c = Nothing
 lineOf (Noted n id) p c = Note n id
-lineOf (Gives g) p c = Unit (unitLine g p c)
-lineOf (Refuses n) p c = Refused n
+lineOf (Given-unit g) p c = Unit (unitLine g p c)
+lineOf (Denied n) p c = Refused n

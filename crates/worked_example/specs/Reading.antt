@@ -60,7 +60,9 @@ unfoldable pub begun : Reading
 begun = record { state = startOf sentConfig .state; counts = record { frames = 0; units = 0; notes = 0 } }
 
 unfoldable pub blockTaken : Reading → Reading
-blockTaken r = record { state = frameOf (r .state) controlBlock .state; counts = withFrame (r .counts) }
+blockTaken r =
+    let f = frameOf (r .state) controlBlock in
+    record { state = f .state; counts = withFrame (f .refusal) (r .counts) }
 
 -- slot 1: the reading, and both memories
 unfoldable pub slotTaken : Reading → List ℕ → List ℕ → Reading × List ℕ × List ℕ

@@ -16,10 +16,13 @@ fn one_more(n: u64) -> u64
     if n < 18446744073709551615 { n + 1 } else { n }
 }
 
-// A frame more.
-pub fn with_frame(c: Counts) -> Counts
-    ensures { λ r. ⌜ r ≡ withFrame c ⌝ }
+// The frame more, if it was not refused.
+pub fn with_frame(c: Counts, refusal: u8) -> Counts
+    ensures { λ r. ⌜ r ≡ withFrame refusal c ⌝ }
 {
+    if refusal != 0 {
+        return c;
+    }
     let frames = one_more(c.frames);
     Counts { frames, ..c }
 }

@@ -1,4 +1,4 @@
-// Lines on standard output, all decimal.
+// Lines on standard output, all decimal. No contract can say what is written; the numbers are those of `line` and `counts`.
 use crate::counts::Counts;
 use crate::line::Line;
 use crate::line::UnitLine;

@@ -1,6 +1,7 @@
 // The reading: start, frame, slot 1, 119 lost slots, each with next until nothing waits.
 ghost use mathlib.Core.Path.{_≡_};
-ghost use Rattle.worked_example.specs.Reading.{goesOn, stepOf, drained, nexts, lostOf, fadeOf, begun, blockTaken, slotTaken, readOf};
+ghost use Rattle.worked_example.specs.Reading.{goesOn, stepOf, drained, nexts, lostOf, fadeOf};
+ghost use Rattle.worked_example.specs.Reading.{begun, blockTaken, slotTaken, readOf};
 use crate::counts::Counts;
 use crate::counts::with_frame;
 use crate::counts::with_line;
@@ -19,7 +20,7 @@ pub struct Step {
     pub more: bool,
 }
 
-// At most so many calls of next follow a slot: broadcast's theorem next-ends.
+// At most so many calls of next follow a slot, as NextEnds of broadcast says: the count only shows that the loop ends.
 const NEXTS: u64 = 42869;
 
 fn is_more(line: Line) -> bool
@@ -116,13 +117,14 @@ fn take_block(r: Reading) -> Reading
     let called = receiver::frame::frame(before, &block);
     print::refusal(called.refusal);
     let state = called.state;
-    let counts = with_frame(r.counts);
+    let counts = with_frame(r.counts, called.refusal);
     Reading { state, counts }
 }
 
 // Slot 1 with its data.
 fn take_slot(r: Reading, packet: &mut [u8], collecting: &mut [u8]) -> Reading
-    ensures { λ s. ⌜ (s, now (packet .exit), now (collecting .exit)) ≡ slotTaken r (now (packet .entry)) (now (collecting .entry)) ⌝ }
+    ensures { λ s.
+        ⌜ (s, now (packet .exit), now (collecting .exit)) ≡ slotTaken r (now (packet .entry)) (now (collecting .entry)) ⌝ }
 {
     let bytes = crate::sent::slot_data();
     let before = r.state;

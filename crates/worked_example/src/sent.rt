@@ -31,6 +31,37 @@ const PACKET: [u8; 23] = [
     0xbb,
 ];
 
+// The header of a null packet with 1,843 bytes behind it.
+const NULL_HEADER: [u8; 4] = [0x7f, 0xff, 7, 51];
+
+// Modulation 1 and rate 1 for 120 slots, and seven unused modes.
+const MODES: [u8; 24] = [
+    0x11,
+    120,
+    0,
+    0xff,
+    0,
+    0,
+    0xff,
+    0,
+    0,
+    0xff,
+    0,
+    0,
+    0xff,
+    0,
+    0,
+    0xff,
+    0,
+    0,
+    0xff,
+    0,
+    0,
+    0xff,
+    0,
+    0,
+];
+
 // Stream 1, CID 0, packet_id 0 alone, R 1,024.
 pub fn config() -> Config
     ensures { λ r. ⌜ r ≡ sentConfig ⌝ }
@@ -44,24 +75,16 @@ pub fn config() -> Config
     }
 }
 
-// 120 slots of modulation 1 and rate 1, all of relative stream 0, which is the TLV stream 1; slot 1's pointers are 0 and 1,870.
+// All slots are of relative stream 0, the TLV stream 1; slot 1's pointers are 0 and 1,870.
 pub fn control_block() -> [u8; 1178]
     ensures { λ r. ⌜ r ≡ controlBlock ⌝ }
 {
     let mut block = [0u8; 1178];
-    block[1] = 0x11;
-    block[2] = 120;
-    block[4] = 0xff;
-    block[7] = 0xff;
-    block[10] = 0xff;
-    block[13] = 0xff;
-    block[16] = 0xff;
-    block[19] = 0xff;
-    block[22] = 0xff;
+    let modes = MODES;
+    wire::memory::copy_at(&mut block, 1, &modes);
+    wire::field::write16(&mut block, 155, 1870);
+    wire::field::write16(&mut block, 693, 1);
     block[25] = 2;
-    block[155] = 7;
-    block[156] = 78;
-    block[694] = 1;
     block
 }
 
@@ -72,9 +95,7 @@ pub fn slot_data() -> [u8; 1870]
     let mut bytes = [0u8; 1870];
     let packet = PACKET;
     wire::memory::copy_at(&mut bytes, 0, &packet);
-    bytes[23] = 0x7f;
-    bytes[24] = 0xff;
-    bytes[25] = 7;
-    bytes[26] = 51;
+    let null = NULL_HEADER;
+    wire::memory::copy_at(&mut bytes, 23, &null);
     bytes
 }

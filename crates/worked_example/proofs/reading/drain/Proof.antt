@@ -10,7 +10,8 @@ use Rattle.worked_example.proofs.reading.drain.Tie as tie
 
 abbrev Inv-loop : tie.InvT-loop
 Inv-loop slot packet collecting₀ reading₀ left₀ collecting reading left =
-    (drained left reading packet collecting ≡ drained nexts reading₀ packet collecting₀) × (length collecting ≡ length collecting₀)
+    (drained left reading packet collecting ≡ drained nexts reading₀ packet collecting₀)
+    × (length collecting ≡ length collecting₀)
 
 abbrev μ-loop : tie.MeasureT-loop
 μ-loop slot packet collecting₀ reading₀ left₀ collecting reading left = left
@@ -28,7 +29,8 @@ returns : tie.Need-returns Inv-loop μ-loop
 returns c =
     let d = c .before .before .before .before .before in
     let l = d .before .before in
-    sym (drained-last _ _ _ _ _ _ (l .loop-test .taken) (d .call-next .ensures) (not-true _ (c .if1 .taken))) ∙ l .before .loop .inv .0
+    let m = not-true _ (c .if1 .taken) in
+    sym (drained-last _ _ _ _ _ _ (l .loop-test .taken) (d .call-next .ensures) m) ∙ l .before .loop .inv .0
 
 sub-left : tie.Need-sub-left Inv-loop μ-loop
 sub-left c = omega arith
@@ -40,7 +42,8 @@ loop-again : tie.Need-loop-again Inv-loop μ-loop
 loop-again c =
     let d = c .before .before .before .before .before in
     let l = d .before .before in
-    (sym (drained-on _ _ _ _ _ _ (l .loop-test .taken) (d .call-next .ensures) (not-false _ (c .if1 .left))) ∙ l .before .loop .inv .0, search needs)
+    let m = not-false _ (c .if1 .left) in
+    (sym (drained-on _ _ _ _ _ _ (l .loop-test .taken) (d .call-next .ensures) m) ∙ l .before .loop .inv .0, search needs)
 
 same-length-2 : tie.Need-same-length-2 Inv-loop μ-loop
 same-length-2 c = search needs

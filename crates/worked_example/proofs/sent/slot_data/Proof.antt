@@ -1,4 +1,4 @@
--- Why `slot_data` meets its contract: by computation, after the packet is copied.
+-- Why `slot_data` meets its contract: by computation, each copy after the other.
 use Rattle.wire.specs.Field.{bytesOf}
 use Rattle.wire.specs.Memory.{pasted}
 use Rattle.worked_example.specs.Sent.{slotData}
@@ -15,21 +15,20 @@ slice-aggregate-copy-at-2 c = search needs
 copy-at-requires : tie.Need-copy-at-requires
 copy-at-requires c κs = search needs
 
-array-write-bytes : tie.Need-array-write-bytes
-array-write-bytes c = search needs
+slice-aggregate-copy-at-3 : tie.Need-slice-aggregate-copy-at-3
+slice-aggregate-copy-at-3 c = search needs
 
-array-write-bytes-2 : tie.Need-array-write-bytes-2
-array-write-bytes-2 c = search needs
+slice-aggregate-copy-at-4 : tie.Need-slice-aggregate-copy-at-4
+slice-aggregate-copy-at-4 c = search needs
 
-array-write-bytes-3 : tie.Need-array-write-bytes-3
-array-write-bytes-3 c = search needs
-
-array-write-bytes-4 : tie.Need-array-write-bytes-4
-array-write-bytes-4 c = search needs
+copy-at-requires-2 : tie.Need-copy-at-requires-2
+copy-at-requires-2 c κs = search needs
 
 returns : tie.Need-returns
 unfolding bytesOf pasted slotData
-returns c = rw (c .before .copy-at .ensures)
+returns c =
+    let k = c .before in
+    rw (k .copy-at2 .ensures, k .before .before .before .before .copy-at .ensures)
 
 pub slot-data-spec : {M : Type 1} → statement M
 slot-data-spec =
@@ -38,8 +37,7 @@ slot-data-spec =
     slice-aggregate-copy-at
     slice-aggregate-copy-at-2
     copy-at-requires
-    array-write-bytes
-    array-write-bytes-2
-    array-write-bytes-3
-    array-write-bytes-4
+    slice-aggregate-copy-at-3
+    slice-aggregate-copy-at-4
+    copy-at-requires-2
     returns)
