@@ -3,7 +3,8 @@ use Prim.Native.Nat.{ℕ}
 use mathlib.Core.List.{List}
 use lib.ListN.{length}
 use Rattle.receiver.specs.declared.answer.Event.{Event}
-use Rattle.receiver.specs.declared.answer.Event.the-variants.{Nothing as Idle, Note as Noted, Unit as Given-unit, Refused as Denied}
+use Rattle.receiver.specs.declared.answer.Event.the-variants.{Nothing as Idle, Note as Noted}
+use Rattle.receiver.specs.declared.answer.Event.the-variants.{Unit as Given-unit, Refused as Denied}
 use Rattle.receiver.specs.declared.answer.Given.{Given}
 use Rattle.receiver.specs.Show.{showOf}
 use Rattle.worked_example.specs.declared.line.UnitLine.{UnitLine}

@@ -1,7 +1,7 @@
 // The reading: start, frame, slot 1, 119 lost slots, each with next until nothing waits.
 ghost use mathlib.Core.Path.{_≡_};
-ghost use Rattle.worked_example.specs.Reading.{goesOn, stepOf, drained, nexts, lostOf, fadeOf};
-ghost use Rattle.worked_example.specs.Reading.{begun, blockTaken, slotTaken, readOf};
+ghost use Rattle.worked_example.specs.Reading.{goesOn, stepOf, leaves, drained, nexts, lostOf, fadeOf};
+ghost use Rattle.worked_example.specs.Reading.{begun, blockTaken, slotLeaves, slotTaken, readOf};
 use crate::counts::Counts;
 use crate::counts::with_frame;
 use crate::counts::with_line;
@@ -14,10 +14,10 @@ pub struct Reading {
     pub counts: Counts,
 }
 
-// The reading after a call of next, and whether that gave an event.
+// A call of next: the reading after it, and its line.
 pub struct Step {
     pub reading: Reading,
-    pub more: bool,
+    pub line: Line,
 }
 
 // At most so many calls of next follow a slot, as NextEnds of broadcast says: the count only shows that the loop ends.
@@ -34,7 +34,7 @@ fn is_more(line: Line) -> bool
     }
 }
 
-// A call of next, and its line.
+// A call of next; its line is printed and counted.
 fn call_next(r: Reading, slot: u64, packet: &[u8], collecting: &mut [u8]) -> Step
     ensures { λ s. ⌜ (s, now (collecting .exit)) ≡ stepOf r (now (packet .entry)) (now (collecting .entry)) ⌝ }
 {
@@ -46,21 +46,21 @@ fn call_next(r: Reading, slot: u64, packet: &[u8], collecting: &mut [u8]) -> Ste
     let given = r.counts;
     print::line(given.frames, slot, line);
     let counts = with_line(given, line);
-    let more = is_more(line);
     let reading = Reading { state, counts };
-    Step { reading, more }
+    Step { reading, line }
 }
 
 // Calls of next until nothing waits.
 fn drain(r: Reading, slot: u64, packet: &[u8], collecting: &mut [u8]) -> Reading
-    ensures { λ s. ⌜ (s, now (collecting .exit)) ≡ drained nexts r (now (packet .entry)) (now (collecting .entry)) ⌝ }
+    ensures { λ s. ⌜ (s, now (collecting .exit)) ≡ leaves (drained nexts slot r (now (packet .entry)) (now (collecting .entry))) ⌝ }
 {
     let mut reading = r;
     let mut left = NEXTS;
     while left > 0 {
         let s = call_next(reading, slot, packet, collecting);
         reading = s.reading;
-        if !s.more {
+        let line = s.line;
+        if !is_more(line) {
             return reading;
         }
         left -= 1;
@@ -70,7 +70,7 @@ fn drain(r: Reading, slot: u64, packet: &[u8], collecting: &mut [u8]) -> Reading
 
 // A lost slot.
 fn lose(r: Reading, slot: u64, packet: &[u8], collecting: &mut [u8]) -> Reading
-    ensures { λ s. ⌜ (s, now (collecting .exit)) ≡ lostOf r (now (packet .entry)) (now (collecting .entry)) ⌝ }
+    ensures { λ s. ⌜ (s, now (collecting .exit)) ≡ leaves (lostOf slot r (now (packet .entry)) (now (collecting .entry))) ⌝ }
 {
     let before = r.state;
     let called = receiver::slot::lost_slot(before, packet, collecting);
@@ -82,7 +82,7 @@ fn lose(r: Reading, slot: u64, packet: &[u8], collecting: &mut [u8]) -> Reading
 
 // Slots 2 to 120, lost.
 fn fade(r: Reading, packet: &[u8], collecting: &mut [u8]) -> Reading
-    ensures { λ s. ⌜ (s, now (collecting .exit)) ≡ fadeOf 119 r (now (packet .entry)) (now (collecting .entry)) ⌝ }
+    ensures { λ s. ⌜ (s, now (collecting .exit)) ≡ leaves (fadeOf 119 2 r (now (packet .entry)) (now (collecting .entry))) ⌝ }
 {
     let mut reading = r;
     let mut slot = 2;
@@ -124,7 +124,8 @@ fn take_block(r: Reading) -> Reading
 // Slot 1 with its data.
 fn take_slot(r: Reading, packet: &mut [u8], collecting: &mut [u8]) -> Reading
     ensures { λ s.
-        ⌜ (s, now (packet .exit), now (collecting .exit)) ≡ slotTaken r (now (packet .entry)) (now (collecting .entry)) ⌝ }
+        ⌜ (s, now (packet .exit), now (collecting .exit))
+        ≡ slotLeaves (slotTaken r (now (packet .entry)) (now (collecting .entry))) ⌝ }
 {
     let bytes = crate::sent::slot_data();
     let before = r.state;

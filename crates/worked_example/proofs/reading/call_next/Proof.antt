@@ -1,6 +1,5 @@
 -- Why `call_next` meets its contract: what next answers, its line, and what that counts.
 use Rattle.worked_example.specs.Reading.{stepOf}
-use mathlib.Core.Path.{sym}
 use borrow.Author.Needs.{needs}
 use Rattle.worked_example.proofs.reading.call_next.Statement.{statement}
 use Rattle.worked_example.proofs.reading.call_next.Tie as tie
@@ -17,27 +16,17 @@ line-requires c κs = search needs
 with-line-requires : tie.Need-with-line-requires
 with-line-requires c κs = search needs
 
-is-more-requires : tie.Need-is-more-requires
-is-more-requires c κs = search needs
-
 same-length : tie.Need-same-length
 same-length c = search needs
 
 returns : tie.Need-returns
 unfolding stepOf
 returns c =
-    let e = c .before .before .before .before in
+    let e = c .before .before .before in
     let n = e .before .before .before .before .before in
-    rw (sym (n .next .ensures), c .is-more .ensures, c .before .with-line .ensures, e .of-event .ensures)
+    rw (← n .next .ensures, c .with-line .ensures, e .of-event .ensures)
 
 pub call-next-spec : {M : Type 1} → statement M
 call-next-spec =
     tie.close
-    (tie.spec
-    next-requires
-    of-event-requires
-    line-requires
-    with-line-requires
-    is-more-requires
-    same-length
-    returns)
+    (tie.spec next-requires of-event-requires line-requires with-line-requires same-length returns)

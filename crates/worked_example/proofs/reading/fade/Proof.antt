@@ -4,13 +4,13 @@ use mathlib.Core.Path.{_≡_, sym, _∙_}
 use native.Mathlib.Omega.{arith}
 use lib.ListN.{length}
 use borrow.Author.Needs.{needs}
-use Rattle.worked_example.specs.Reading.{fadeOf, fade-none, fade-on}
+use Rattle.worked_example.specs.Reading.{leaves, fadeOf, fade-none, fade-on}
 use Rattle.worked_example.proofs.reading.fade.Statement.{statement}
 use Rattle.worked_example.proofs.reading.fade.Tie as tie
 
 abbrev Inv-loop : tie.InvT-loop
 Inv-loop packet collecting₀ reading₀ slot₀ collecting reading slot =
-    (slot ≤ 121) × (fadeOf (121 - slot) reading packet collecting ≡ fadeOf 119 reading₀ packet collecting₀)
+    (slot ≤ 121) × (leaves (fadeOf (121 - slot) slot reading packet collecting) ≡ leaves (fadeOf 119 2 reading₀ packet collecting₀))
     × (length collecting ≡ length collecting₀)
 
 abbrev μ-loop : tie.MeasureT-loop
@@ -33,7 +33,7 @@ loop-again c =
     let d = c .before .before in
     let l = d .before .before .before .loop in
     let e : 121 - l .slot ≡ 121 - (l .slot + 1) + 1 = omega arith in
-    (omega arith, sym (fade-on _ _ _ _ _ _ _ e (d .lose .ensures)) ∙ l .inv .1, search needs)
+    (omega arith, sym (fade-on _ _ _ _ _ _ _ _ e (d .lose .ensures)) ∙ l .inv .1, search needs)
 
 same-length : tie.Need-same-length Inv-loop μ-loop
 same-length c = search needs
@@ -41,7 +41,7 @@ same-length c = search needs
 returns : tie.Need-returns Inv-loop μ-loop
 returns c =
     let e : 121 - c .before .loop .slot ≤ 0 = omega arith in
-    sym (fade-none _ _ _ _ e) ∙ c .before .loop .inv .1
+    sym (fade-none _ _ _ _ _ e) ∙ c .before .loop .inv .1
 
 pub fade-spec : {M : Type 1} → statement M
 fade-spec =

@@ -1,5 +1,5 @@
 -- Why `read` meets its contract: its calls, one after the other.
-use Rattle.worked_example.specs.Reading.{readOf}
+use Rattle.worked_example.specs.Reading.{all-read}
 use borrow.Author.Needs.{needs}
 use Rattle.worked_example.proofs.reading.read.Statement.{statement}
 use Rattle.worked_example.proofs.reading.read.Tie as tie
@@ -23,12 +23,12 @@ same-length-2 : tie.Need-same-length-2
 same-length-2 c = search needs
 
 returns : tie.Need-returns
-unfolding readOf
 returns c =
     let f = c .before .before .before in
     let s = f .before .before .before .before .before .before .before in
     let b = s .before .before .before in
-    rw (← b .before .begin .ensures, ← b .take-block .ensures, ← s .take-slot .ensures, ← f .fade .ensures)
+    let e = rw (b .take-block .ensures, b .before .begin .ensures) at (s .take-slot .ensures) in
+    all-read _ _ _ _ _ _ _ e (f .fade .ensures)
 
 pub read-spec : {M : Type 1} → statement M
 read-spec =

@@ -1,6 +1,5 @@
 -- Why `take_slot` meets its contract: what slot leaves of the data, and the calls of next after it.
-use mathlib.Core.Path.{sym}
-use Rattle.worked_example.specs.Reading.{slotTaken}
+use Rattle.worked_example.specs.Reading.{slot-taken}
 use borrow.Author.Needs.{needs}
 use Rattle.worked_example.proofs.reading.take_slot.Statement.{statement}
 use Rattle.worked_example.proofs.reading.take_slot.Tie as tie
@@ -27,11 +26,11 @@ same-length-2 : tie.Need-same-length-2
 same-length-2 c = search needs
 
 returns : tie.Need-returns
-unfolding slotTaken
 returns c =
     let d = c .before .before in
     let s = d .before .before .before .before .before .before .before .before in
-    rw (← s .before .before .before .before .before .slot-data .ensures, ← s .slot .ensures, ← d .drain .ensures)
+    let e = rw (s .before .before .before .before .before .slot-data .ensures) at (s .slot .ensures) in
+    slot-taken _ _ _ _ _ _ _ e (d .drain .ensures)
 
 pub take-slot-spec : {M : Type 1} → statement M
 take-slot-spec =
