@@ -3,3 +3,4 @@ pub mod Sent
 pub mod Line
 pub mod Count
 pub mod Reading
+pub mod Outcome
