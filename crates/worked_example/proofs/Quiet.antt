@@ -1,8 +1,8 @@
 -- Lost slots while nothing is held print nothing and count nothing.
 use Prim.Native.Nat.{ℕ, zero, suc, _+_, _≤_, _<_}
-use mathlib.Core.Path.{_≡_, refl, sym, _∙_, ap}
+use mathlib.Core.Path.{_≡_, refl}
 use mathlib.Core.Bool.{Bool, true, false}
-use mathlib.Core.List.{List, [], append-assoc}
+use mathlib.Core.List.{List, append-assoc}
 use native.Mathlib.Omega.{arith}
 use lib.ListN.{length}
 use Rattle.tmcc.specs.declared.layout.Layout.{Layout}
@@ -11,14 +11,14 @@ use Rattle.receiver.specs.declared.state.State.{State}
 use Rattle.receiver.specs.declared.answer.Event.the-variants.{Nothing as Idle}
 use Rattle.receiver.specs.State.{searching, noted, empty, accepted}
 use Rattle.receiver.specs.Frame.{lossOf}
-use Rattle.receiver.specs.Slot.{shortBy, refusalOf, refused-none, counted, dueOwn, lossTaken, lostSlotOf, lost-own, lost-not-own}
+use Rattle.receiver.specs.Slot.{shortBy, refused-none, counted, dueOwn, lossTaken, lostSlotOf}
 use Rattle.receiver.specs.Queue.{takenOf}
 use Rattle.receiver.specs.Next.{advancedOf, turnOf, readOn, left, readAll, nextOf, answered, next-reads}
 use Rattle.worked_example.specs.declared.counts.Counts.{Counts}
 use Rattle.worked_example.specs.declared.line.Line.the-variants.{Nothing}
 use Rattle.worked_example.specs.declared.reading.Reading.{Reading}
 use Rattle.worked_example.specs.Sent.{sentConfig}
-use Rattle.worked_example.specs.Reading.{Left, behind, silent, withState, stepOf, drained, nexts, lostOf, fadeOf}
+use Rattle.worked_example.specs.Reading.{behind, silent, stepOf, drained, nexts, lostOf, fadeOf}
 
 -- nothing is held and nothing waits, and slot `at`, counted from 0, is due
 abbrev pub quiet : Layout → List Channel → ℕ → State
@@ -40,7 +40,9 @@ unfolding drained
 drained-quiet zero slot r x p c d h e = absurd (omega arith)
 drained-quiet (suc f) slot r x p c d h e = rw e
 
-module _ (l : Layout) (chs : List Channel) (k : Counts) (p c : List ℕ) (room : shortBy sentConfig (length p) (length c) ≡ false) where
+-- the state stays quiet, and the slots are counted
+module _ (l : Layout) (chs : List Channel) (k : Counts) (p c : List ℕ)
+    (room : shortBy sentConfig (length p) (length c) ≡ false) where
   abbrev reading : ℕ → Reading
   reading at = record { state = quiet l chs at; counts = k }
 
@@ -56,7 +58,8 @@ module _ (l : Layout) (chs : List Channel) (k : Counts) (p c : List ℕ) (room :
   unfolding stepOf
   steps own at = rw (waits-not own at)
 
-  taken : (at : ℕ) → at < 120 → lostSlotOf (quiet l chs at) (length p) (length c) ≡ accepted (lossTaken (dueOwn (quiet l chs at)) (quiet l chs at))
+  taken : (at : ℕ) → at < 120
+      → let st = quiet l chs at in lostSlotOf st (length p) (length c) ≡ accepted (lossTaken (dueOwn st) st)
   unfolding lostSlotOf
   taken at h = rw (refused-none (quiet l chs at) (length p) (length c) h refl room)
 

@@ -20,7 +20,7 @@ pub struct Step {
     pub line: Line,
 }
 
-// At most so many calls of next follow a slot, as NextEnds of broadcast says: the count only shows that the loop ends.
+// At most so many calls of next follow a slot (Bound of broadcast), so this never ends a reading; it shows that the loop ends.
 const NEXTS: u64 = 42869;
 
 fn is_more(line: Line) -> bool
@@ -52,7 +52,9 @@ fn call_next(r: Reading, slot: u64, packet: &[u8], collecting: &mut [u8]) -> Ste
 
 // Calls of next until nothing waits.
 fn drain(r: Reading, slot: u64, packet: &[u8], collecting: &mut [u8]) -> Reading
-    ensures { λ s. ⌜ (s, now (collecting .exit)) ≡ leaves (drained nexts slot r (now (packet .entry)) (now (collecting .entry))) ⌝ }
+    ensures { λ s.
+        ⌜ (s, now (collecting .exit))
+        ≡ leaves (drained nexts slot r (now (packet .entry)) (now (collecting .entry))) ⌝ }
 {
     let mut reading = r;
     let mut left = NEXTS;

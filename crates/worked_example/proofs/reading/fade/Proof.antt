@@ -10,7 +10,8 @@ use Rattle.worked_example.proofs.reading.fade.Tie as tie
 
 abbrev Inv-loop : tie.InvT-loop
 Inv-loop packet collecting₀ reading₀ slot₀ collecting reading slot =
-    (slot ≤ 121) × (leaves (fadeOf (121 - slot) slot reading packet collecting) ≡ leaves (fadeOf 119 2 reading₀ packet collecting₀))
+    (slot ≤ 121)
+    × (leaves (fadeOf (121 - slot) slot reading packet collecting) ≡ leaves (fadeOf 119 2 reading₀ packet collecting₀))
     × (length collecting ≡ length collecting₀)
 
 abbrev μ-loop : tie.MeasureT-loop
