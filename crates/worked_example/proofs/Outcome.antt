@@ -24,7 +24,8 @@ use Rattle.reassembly.specs.Channel.{heard, gap, unheard}
 use Rattle.reassembly.specs.Join.{interrupted, acted, joinOf}
 use Rattle.receiver.specs.Start.{before, twiceBelow, twice, freshState, refusalOf as startRefusal, startOf}
 use Rattle.receiver.specs.Frame.{frameBusy, frameOf, lossOf}
-use Rattle.receiver.specs.Slot.{shortBy, refusalOf as slotRefusal, counted, ownOf}
+use Rattle.receiver.specs.Slot.{shortBy, refusalOf as slotRefusal, counted}
+use Rattle.intake.specs.Slot.{takenOf as slotIntake, lostOf as slotLost}
 use Rattle.intake.specs.Slot.{cursorFrom, copied}
 use Rattle.receiver.specs.Slot.{wrongLength, slotOf, lostSlotOf}
 use Rattle.delivery.specs.Packet.{arrivedAt, firstUnit, collected, giveOf, joinedOf}
@@ -69,7 +70,7 @@ unfolding first near be bytesOf pasted partOf allBelow countBelow lastBelow tab 
     fixedBytes extensionBytes payloadStart headerOf firstFrom lookupOf fieldBytes fieldsOf singleFits singleUnit singleAt
     indicatorOf signallingOf parsedOf counterFits aggregationFits unitsFit tested payloadOf bodyRead lookedUp headRead readingOf
     heard gap unheard interrupted acted joinOf before twiceBelow twice freshState startRefusal frameBusy lossOf shortBy
-    slotRefusal counted cursorFrom copied ownOf wrongLength slotOf lostSlotOf arrivedAt firstUnit collected giveOf joinedOf
+    slotRefusal counted cursorFrom copied slotIntake slotLost wrongLength slotOf lostSlotOf arrivedAt firstUnit collected giveOf joinedOf
     takenOf tailAdvanced slotAdvanced advancedOf packetOf turnOf readOn left readAll nextOf showOf controlBlock slotData oneMore
     stepOf drained lostOf fadeOf begun blockTaken slotTaken startOf frameOf
 computed = record { started = refl; framed = refl; unit-line = refl; note-line = refl; after = refl; room = refl }

@@ -13,6 +13,7 @@ use Rattle.intake.specs.Slot.{searching, noted}
 use Rattle.delivery.specs.Queue.{empty}
 use Rattle.receiver.specs.State.{accepted}
 use Rattle.receiver.specs.Frame.{lossOf}
+use Rattle.intake.specs.Slot.{lostOf as slotLost}
 use Rattle.receiver.specs.Slot.{shortBy, refused-none, counted, dueOwn, lossTaken, lostSlotOf}
 use Rattle.delivery.specs.Queue.{takenOf}
 use Rattle.delivery.specs.Cursor.{advancedOf, turnOf, left}
@@ -51,7 +52,7 @@ module _ (l : Layout) (chs : List Channel) (k : Counts) (p c : List ℕ)
 
   -- next after a lost slot, an own one or not
   waits-not : (own : Bool) (at : ℕ) → nextOf (lossTaken own (quiet l chs at)) p c ≡ answered Idle (quiet l chs (at + 1)) c
-  unfolding counted lossOf readAll readOn left turnOf takenOf advancedOf
+  unfolding counted lossOf slotLost readAll readOn left turnOf takenOf advancedOf
   waits-not false at = next-reads _ p c room refl
   waits-not true at = next-reads _ p c room refl
 
