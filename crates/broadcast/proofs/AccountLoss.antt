@@ -5,7 +5,19 @@ use mathlib.Core.Path.{_≡_, sym, _∙_, ap}
 use mathlib.Core.Bool.{Bool, true}
 use mathlib.Core.List.{List, _∷_, _++_, map, map-map}
 use lib.ListN.{replicate}
-use Rattle.tlv.specs.Run.{Slot, Labelled as Labelled-packet, Event, searching, lost, intact, damaged, run as slots, stateAfter, packets, Clean as Slot-clean}
+use Rattle.tlv.specs.Run.{
+  Slot,
+  Labelled as Labelled-packet,
+  Event,
+  searching,
+  lost,
+  intact,
+  damaged,
+  run as slots,
+  stateAfter,
+  packets,
+  Clean as Slot-clean,
+}
 use Rattle.tlv.specs.Row.{rowPackets}
 use Rattle.tlv.specs.Claims.{Seen, Filled, seen, seenInRow}
 use Rattle.tlv.proofs.Runs.{run-append, run-lost}
@@ -21,7 +33,14 @@ use Rattle.wire.specs.Lists.{all, sift-map}
 use Rattle.broadcast.specs.Account.{events, account}
 use Rattle.broadcast.specs.Carried.{inputs, inRow, rowInputs, carriedUnits, intactUnits, Few, contents}
 use Rattle.broadcast.specs.Claims.{AccountUnits, AccountLoss, LostMany}
-use Rattle.broadcast.proofs.Labels.{relabel, relabelled, sent-relabelled, count-relabelled, contents-relabelled, unharmed-relabelled}
+use Rattle.broadcast.proofs.Labels.{
+  relabel,
+  relabelled,
+  sent-relabelled,
+  count-relabelled,
+  contents-relabelled,
+  unharmed-relabelled,
+}
 use Rattle.broadcast.proofs.Inputs.{pairOf, counted, inputs-relabelled, inputs-received, events-units, events-clean}
 
 module _ {A : Type 0} (c : Config) (xs : List (A × Slot)) where

@@ -19,7 +19,16 @@ use Rattle.intake.specs.declared.held.Cursor.{Cursor}
 use Rattle.intake.specs.declared.held.Held.{Held}
 use Rattle.intake.specs.Slot.{holding, noted}
 use Rattle.delivery.specs.Cursor.{tailAdvanced, slotAdvanced, advancedOf, left}
-use Rattle.broadcast.specs.Pending.{Found, slot-notes, a-packet, some-if, slotPending, heldAfter, cursorPending, cursorLeaves}
+use Rattle.broadcast.specs.Pending.{
+  Found,
+  slot-notes,
+  a-packet,
+  some-if,
+  slotPending,
+  heldAfter,
+  cursorPending,
+  cursorLeaves,
+}
 use Rattle.broadcast.specs.SlotClaims.{CursorGood, Advances, Advance}
 use Rattle.broadcast.proofs.SlotCut.{cutGives, cutLeaves, leaves-cut}
 use Rattle.broadcast.proofs.SlotMemory.{length-part-end, part-first}

@@ -15,7 +15,20 @@ use Rattle.tlv.specs.Run.{Slot, Arrival, lost, given, intact, damaged, arrival}
 use Rattle.tlv.specs.Claims.{Filled}
 use Rattle.reassembly.specs.declared.config.Config.{Config}
 use Rattle.broadcast.specs.Account.{account}
-use Rattle.broadcast.specs.Frames.{Frame, Damage, none, slotAt, ifOwn, slotsFrom, layoutIn, ownSlots, arriving, slotsArrive, frameArrives, arrivals}
+use Rattle.broadcast.specs.Frames.{
+  Frame,
+  Damage,
+  none,
+  slotAt,
+  ifOwn,
+  slotsFrom,
+  layoutIn,
+  ownSlots,
+  arriving,
+  slotsArrive,
+  frameArrives,
+  arrivals,
+}
 use Rattle.broadcast.specs.Demand3.{kept}
 use Rattle.broadcast.proofs.AccountLoss.{lost-many}
 use Rattle.broadcast.proofs.Items.{right-length}

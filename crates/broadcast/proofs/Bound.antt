@@ -12,7 +12,26 @@ use Rattle.tlv.specs.Packet.{cut, tooLong}
 use Rattle.tlv.specs.Cuts.{row, AllSized, cut-whole, cut-sized}
 use Rattle.tlv.specs.Slot.{sound}
 use Rattle.tlv.specs.Held.{continuationOf}
-use Rattle.tlv.specs.Run.{Slot, withoutTop, Event as Slot-event, note, packet, State as Slot-state, searching, held, lost, given, step, Stepped, packetOf, kept, readFrom, finished, resumed, arrived}
+use Rattle.tlv.specs.Run.{
+  Slot,
+  withoutTop,
+  Event as Slot-event,
+  note,
+  packet,
+  State as Slot-state,
+  searching,
+  held,
+  lost,
+  given,
+  step,
+  Stepped,
+  packetOf,
+  kept,
+  readFrom,
+  finished,
+  resumed,
+  arrived,
+}
 use Rattle.reassembly.specs.declared.config.Config.{Config}
 use Rattle.reassembly.specs.Run.{Line}
 use Rattle.receiver.specs.declared.state.State.{State}

@@ -10,20 +10,54 @@ use Rattle.wire.specs.Field.{be}
 use Rattle.tmcc.specs.declared.layout.Layout.{Layout}
 use Rattle.tmcc.specs.declared.block.Decoded.{Decoded}
 use Rattle.tmcc.specs.Count.{tab, allBelow, countBelow, lastBelow}
-use Rattle.tmcc.specs.Mode.{dataBytes, within, used, unused, modeGood, slotsOf as modeSlots, modesGood, modeFrom, modeOf, slotLength}
+use Rattle.tmcc.specs.Mode.{
+  dataBytes,
+  within,
+  used,
+  unused,
+  modeGood,
+  slotsOf as modeSlots,
+  modesGood,
+  modeFrom,
+  modeOf,
+  slotLength,
+}
 use Rattle.tmcc.specs.Stream.{chosen, relativeStream, ownSlot}
 use Rattle.tmcc.specs.Layout.{pointersAt, layoutOf, blankLayout}
 use Rattle.tmcc.specs.Block.{decodeOf}
 use Rattle.tlv.specs.Packet.{goodFirst, total, complete, tooLong, marked, cutBy, cut}
 use Rattle.tlv.specs.Slot.{endFrom, lastPointer, sound}
 use Rattle.tlv.specs.Held.{endWithin, endBeyond, heldTotal, heldEnd, continuationOf}
-use Rattle.tlv.specs.Run.{Slot, searching, kept as kept-tail, readFrom, finished, resumed, arrived, step as slot-step, run as slot-run, damaged}
+use Rattle.tlv.specs.Run.{
+  Slot,
+  searching,
+  kept as kept-tail,
+  readFrom,
+  finished,
+  resumed,
+  arrived,
+  step as slot-step,
+  run as slot-run,
+  damaged,
+}
 use Rattle.tlv.specs.Row.{allBytes, row, packetsBy, rowPackets}
 use Rattle.mmtp.specs.Flow.{flowOf, compressedOf, behind, compressedHeader}
 use Rattle.mmtp.specs.Header.{headerOf, plain, payloadStart, fixedBytes, extensionBytes, extensionLength}
 use Rattle.mmtp.specs.Watch.{lookupOf, firstFrom}
 use Rattle.mmtp.specs.Packet.{readingOf, headRead, lookedUp, bodyRead}
-use Rattle.mmtp.specs.Payload.{indicatorOf, fragmentTypeOf, mpuOf, signallingOf, parsedOf, counterFits, aggregationFits, unitsFit, tested, payloadOf, piecesOf}
+use Rattle.mmtp.specs.Payload.{
+  indicatorOf,
+  fragmentTypeOf,
+  mpuOf,
+  signallingOf,
+  parsedOf,
+  counterFits,
+  aggregationFits,
+  unitsFit,
+  tested,
+  payloadOf,
+  piecesOf,
+}
 use Rattle.mmtp.specs.Unit.{fieldBytes, fieldsOf, pieceOf, singleFits}
 use Rattle.reassembly.specs.Unit.{agrees}
 use Rattle.reassembly.specs.Channel.{nextPsn, heard, gap, unheard}
@@ -39,7 +73,25 @@ use Rattle.broadcast.specs.Calls.{Made}
 use Rattle.broadcast.specs.Frames.{Whole, Damage, none, slotsFrom, ownSlots, layoutIn}
 use Rattle.broadcast.specs.Demand3.{started, Reads, shownOf, refusedOf, NoNote, unitsOf, slotsOf, kept}
 use Rattle.broadcast.specs.Example.{slot, first, last, joined}
-use Rattle.broadcast.specs.Broadcast.{config, block, layout, opening, closing, slotsOver, frameOver, alone, frames, Memories, Assumed, Met, whole, Shows, slotLost, frameLost, BroadcastClaims}
+use Rattle.broadcast.specs.Broadcast.{
+  config,
+  block,
+  layout,
+  opening,
+  closing,
+  slotsOver,
+  frameOver,
+  alone,
+  frames,
+  Memories,
+  Assumed,
+  Met,
+  whole,
+  Shows,
+  slotLost,
+  frameLost,
+  BroadcastClaims,
+}
 use Rattle.broadcast.specs.Machines.{At}
 use Rattle.broadcast.proofs.Reading.{SlotsFit, FramesFit}
 use Rattle.broadcast.proofs.Arrivals.{damage-account}

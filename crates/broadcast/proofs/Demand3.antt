@@ -27,10 +27,32 @@ use Rattle.broadcast.specs.Carried.{inputs, rowInputs, carriedUnits, int
 use Rattle.broadcast.specs.Drains.{strip, LineIs}
 use Rattle.broadcast.specs.Calls.{Machine, Made, Todo, call, drain, frame, slot, did, Follows, refusals, refusalIn}
 use Rattle.broadcast.specs.Frames.{Frame, Damage, none, reading, slotsTodo, ownSlots, arrivals}
-use Rattle.broadcast.specs.Demand3.{started, Reads, shownOf, refusedOf, NoNote, unitsOf, slotsOf, kept, Damaged, Concluded, Demand3}
+use Rattle.broadcast.specs.Demand3.{
+  started,
+  Reads,
+  shownOf,
+  refusedOf,
+  NoNote,
+  unitsOf,
+  slotsOf,
+  kept,
+  Damaged,
+  Concluded,
+  Demand3,
+}
 use Rattle.broadcast.proofs.AccountLoss.{account-units, account-loss}
 use Rattle.broadcast.specs.Machines.{At}
-use Rattle.broadcast.proofs.Reading.{FramesFit, frames-read, frames-made, frames-fit, nothing-left, nil-left, nil-right, unrefused, slot-refusal}
+use Rattle.broadcast.proofs.Reading.{
+  FramesFit,
+  frames-read,
+  frames-made,
+  frames-fit,
+  nothing-left,
+  nil-left,
+  nil-right,
+  unrefused,
+  slot-refusal,
+}
 use Rattle.broadcast.proofs.Script.{call-follows}
 use Rattle.broadcast.proofs.Arrivals.{frames-intact, frames-filled, damage-account}
 

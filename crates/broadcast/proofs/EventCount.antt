@@ -15,7 +15,18 @@ use Rattle.mmtp.specs.declared.payload.Payload.{Payload}
 use Rattle.mmtp.specs.Flow.{flowOf, mmtp-place}
 use Rattle.mmtp.specs.Packet.{readingOf}
 use Rattle.mmtp.specs.Payload.{piecesOf, pieces-single, pieces-aggregated}
-use Rattle.mmtp.specs.Unit.{Aggregate, allRead, unitFits, unitThen, unitLength, afterUnit, aggregateBy, aggregate, lengthBytes, length-bytes-pos}
+use Rattle.mmtp.specs.Unit.{
+  Aggregate,
+  allRead,
+  unitFits,
+  unitThen,
+  unitLength,
+  afterUnit,
+  aggregateBy,
+  aggregate,
+  lengthBytes,
+  length-bytes-pos,
+}
 use Rattle.reassembly.specs.declared.config.Config.{Config}
 use Rattle.reassembly.specs.declared.join.Action.{Action}
 use Rattle.reassembly.specs.declared.join.Action.the-variants.{Nothing, Whole as GiveWhole, Store, Complete}

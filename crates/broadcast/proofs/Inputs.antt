@@ -4,7 +4,14 @@ use Prim.Native.Nat.{ℕ}
 use mathlib.Core.Path.{_≡_, refl, sym, _∙_}
 use mathlib.Core.Bool.{Bool, true, false}
 use mathlib.Core.List.{List, [], _∷_, _++_, map, map-append}
-use Rattle.tlv.specs.Run.{Labelled as Labelled-packet, Event as Slot-event, note as slot-note, packet, packets, Clean as Slot-clean}
+use Rattle.tlv.specs.Run.{
+  Labelled as Labelled-packet,
+  Event as Slot-event,
+  note as slot-note,
+  packet,
+  packets,
+  Clean as Slot-clean,
+}
 use Rattle.reassembly.specs.declared.config.Config.{Config}
 use Rattle.reassembly.specs.Run.{Input, Event, note, unit, Line, step, withLine, run, units, Clean}
 use Rattle.reassembly.specs.Claims.{received}

@@ -18,7 +18,18 @@ use Rattle.delivery.specs.declared.queue.Queue.{Queue}
 use Rattle.receiver.specs.declared.state.State.{State}
 use Rattle.receiver.specs.State.{accepted as acceptedAs}
 use Rattle.receiver.specs.Frame.{frameBusy, lossOf, lostFrameOf}
-use Rattle.receiver.specs.Slot.{counted, ownOf, slotOf, lostSlotOf, refusalOf, shortBy, wrongLength, dueLength, dueOwn, duePointers}
+use Rattle.receiver.specs.Slot.{
+  counted,
+  ownOf,
+  slotOf,
+  lostSlotOf,
+  refusalOf,
+  shortBy,
+  wrongLength,
+  dueLength,
+  dueOwn,
+  duePointers,
+}
 use Rattle.broadcast.specs.Account.{events, linesAfter}
 use Rattle.broadcast.specs.Drains.{Shown, strip, Drains, Tracks}
 use Rattle.broadcast.specs.Pending.{cursorPending, cursorLeaves, queuePending}

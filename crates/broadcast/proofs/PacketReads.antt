@@ -30,7 +30,15 @@ use Rattle.delivery.specs.Queue.{empty}
 use Rattle.receiver.specs.State.{withQueue, withChannels}
 use Rattle.delivery.specs.Packet.{bytesAt, unitIn, baseOf, stepOf, queueOf, joinedOf, arrivedAt, readBy, flowBy}
 use Rattle.receiver.specs.Next.{arrivedBy, packetOf}
-use Rattle.broadcast.specs.Account.{After, input, inputFrom, readOf, afterRead, readBy as accountRead, flowBy as accountFlow}
+use Rattle.broadcast.specs.Account.{
+  After,
+  input,
+  inputFrom,
+  readOf,
+  afterRead,
+  readBy as accountRead,
+  flowBy as accountFlow,
+}
 use Rattle.broadcast.specs.Drains.{Shown, note, strip, LineIs}
 use Rattle.broadcast.specs.Pending.{queuePending}
 use Rattle.broadcast.specs.PacketClaims.{QueueEmpty, QueueGood, LinesAre, Stands, PacketDoes}

@@ -21,8 +21,48 @@ use Rattle.receiver.specs.Frame.{frameBusy, frameOf}
 use Rattle.receiver.specs.Slot.{wrongLength, refusalOf, slotOf, slotTaken, dueLength, dueOwn, duePointers}
 use Rattle.broadcast.specs.Account.{events, linesAfter, afterEvent}
 use Rattle.broadcast.specs.Drains.{Shown, strip}
-use Rattle.broadcast.specs.Calls.{Machine, Call, frame, slot, lost-frame, accepted, refused, numbered, Did, did, Todo, call, drain, Made, own, shows, added, Follows, allShown, refusals, noteShown, refusalIn, Answer}
-use Rattle.broadcast.specs.Frames.{Frame, Whole, Damage, none, slotCall, slotsTodo, frameTodo, reading, slotAt, ifOwn, arriving, slotsArrive, layoutIn, frameArrives, arrivals}
+use Rattle.broadcast.specs.Calls.{
+  Machine,
+  Call,
+  frame,
+  slot,
+  lost-frame,
+  accepted,
+  refused,
+  numbered,
+  Did,
+  did,
+  Todo,
+  call,
+  drain,
+  Made,
+  own,
+  shows,
+  added,
+  Follows,
+  allShown,
+  refusals,
+  noteShown,
+  refusalIn,
+  Answer,
+}
+use Rattle.broadcast.specs.Frames.{
+  Frame,
+  Whole,
+  Damage,
+  none,
+  slotCall,
+  slotsTodo,
+  frameTodo,
+  reading,
+  slotAt,
+  ifOwn,
+  arriving,
+  slotsArrive,
+  layoutIn,
+  frameArrives,
+  arrivals,
+}
 use Rattle.broadcast.proofs.Script.{Left, Makes, call-follows, drain-follows, call-made, drain-made}
 use Rattle.broadcast.specs.Machines.{At}
 use Rattle.broadcast.proofs.Items.{Item, due, own-item, lost-item, lost-frame-item, other-item, other-lost-item}

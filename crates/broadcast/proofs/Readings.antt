@@ -24,8 +24,43 @@ use Rattle.receiver.specs.Slot.{wrongLength, slotOf, lostSlotOf, lossTaken, due
 use Rattle.receiver.specs.Frame.{frameBusy, frameOf, lossOf, lostFrameOf}
 use Rattle.broadcast.specs.Account.{account, events, linesAfter}
 use Rattle.broadcast.specs.Drains.{Shown, strip}
-use Rattle.broadcast.specs.Calls.{Machine, Call, Todo, Made, own, shows, added, next, accepted, refused, noteShown, eventAnswer, numbered, call, drain, frame, slot, lost-frame, did, Follows, allShown, refusals, refusalIn}
-use Rattle.broadcast.specs.Frames.{Frame, Damage, slotCall, slotsTodo, frameTodo, reading, slotsArrive, layoutIn, frameArrives, arrivals}
+use Rattle.broadcast.specs.Calls.{
+  Machine,
+  Call,
+  Todo,
+  Made,
+  own,
+  shows,
+  added,
+  next,
+  accepted,
+  refused,
+  noteShown,
+  eventAnswer,
+  numbered,
+  call,
+  drain,
+  frame,
+  slot,
+  lost-frame,
+  did,
+  Follows,
+  allShown,
+  refusals,
+  refusalIn,
+}
+use Rattle.broadcast.specs.Frames.{
+  Frame,
+  Damage,
+  slotCall,
+  slotsTodo,
+  frameTodo,
+  reading,
+  slotsArrive,
+  layoutIn,
+  frameArrives,
+  arrivals,
+}
 use Rattle.receiver.specs.Start.{startOf, freshState}
 use Rattle.broadcast.specs.Demand3.{started, Reads, shownOf, refusedOf}
 use Rattle.broadcast.specs.Readings.{Begun, ReadingTheorem}
@@ -34,7 +69,24 @@ use Rattle.broadcast.proofs.Script.{call-follows, not-done}
 use Rattle.broadcast.proofs.Demand3.{start-accepted, start-at, slot-due, slot-tells}
 use Rattle.broadcast.specs.Machines.{At}
 use Rattle.broadcast.proofs.Items.{due, lost-frame-item}
-use Rattle.broadcast.proofs.Reading.{Went, slot-step, went-on, nothing-left, nil-left, nil-right, unrefused, slot-refusal, frame-refusal, slot-accepted, frame-accepted, frame-did, frame-at, framed, call-left, shown-on}
+use Rattle.broadcast.proofs.Reading.{
+  Went,
+  slot-step,
+  went-on,
+  nothing-left,
+  nil-left,
+  nil-right,
+  unrefused,
+  slot-refusal,
+  frame-refusal,
+  slot-accepted,
+  frame-accepted,
+  frame-did,
+  frame-at,
+  framed,
+  call-left,
+  shown-on,
+}
 
 module _ (cfg : Config) where
   -- a slot that is given and accepted has its length

@@ -21,7 +21,18 @@ use Rattle.intake.specs.declared.held.Cursor.{Cursor}
 use Rattle.mmtp.specs.declared.unit.Step.{Step}
 use Rattle.mmtp.specs.declared.unit.Step.the-variants.{Unit as UnitAt, Malformed, End}
 use Rattle.receiver.specs.Frame.{frameBusy, frameOf, lostFrameOf}
-use Rattle.receiver.specs.Slot.{Out, refusalOf, wrongLength, dueLength, dueOwn, duePointers, slotTaken, slotOf, lostSlotOf, shortBy}
+use Rattle.receiver.specs.Slot.{
+  Out,
+  refusalOf,
+  wrongLength,
+  dueLength,
+  dueOwn,
+  duePointers,
+  slotTaken,
+  slotOf,
+  lostSlotOf,
+  shortBy,
+}
 use Rattle.wire.specs.Memory.{partOf}
 use Rattle.mmtp.specs.Unit.{unitAt}
 use Rattle.delivery.specs.Queue.{giveBy, manyBy, takenOf}
@@ -32,7 +43,20 @@ use Rattle.tlv.specs.declared.packet.Next.the-variants.{Packet as PacketTo, Tai
 use Rattle.tlv.specs.Packet.{packetAt, tooLong}
 use Rattle.receiver.specs.Next.{Out as NextOut, onwards, readOn, readAll, nextOf, past}
 use Rattle.delivery.specs.Cursor.{tailAdvanced, advancedBy, slotAdvanced, advancedOf, turnBy, turnOf, left}
-use Rattle.broadcast.specs.Calls.{Machine, Call, frame, lost-frame, slot, lost-slot, next, did, numbered, eventAnswer, IsRefused, withState}
+use Rattle.broadcast.specs.Calls.{
+  Machine,
+  Call,
+  frame,
+  lost-frame,
+  slot,
+  lost-slot,
+  next,
+  did,
+  numbered,
+  eventAnswer,
+  IsRefused,
+  withState,
+}
 
 -- a state that comes back beside a refusal is the one given
 abbrev Keeps : State → Called → Type 0

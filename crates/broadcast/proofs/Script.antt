@@ -9,7 +9,28 @@ use Rattle.receiver.specs.declared.answer.Answer.{Answer as NextAnswer}
 use Rattle.receiver.specs.declared.state.State.{State}
 use Rattle.receiver.specs.Next.{nextOf}
 use Rattle.broadcast.specs.Drains.{Shown, note, shown, Drains, stops, notes, units}
-use Rattle.broadcast.specs.Calls.{Machine, Call, next, Did, did, Made, own, shows, added, Todo, call, drain, show, drainAfter, eventAnswer, Follows, noteShown, refusalIn, allShown, refusals}
+use Rattle.broadcast.specs.Calls.{
+  Machine,
+  Call,
+  next,
+  Did,
+  did,
+  Made,
+  own,
+  shows,
+  added,
+  Todo,
+  call,
+  drain,
+  show,
+  drainAfter,
+  eventAnswer,
+  Follows,
+  noteShown,
+  refusalIn,
+  allShown,
+  refusals,
+}
 use Rattle.broadcast.proofs.Refusals.{did-refused}
 
 abbrev machine : State → List ℕ → List ℕ → Machine

@@ -17,20 +17,62 @@ use Rattle.tlv.specs.Packet.{cut}
 use Rattle.tlv.specs.Cuts.{cut-tail-length}
 use Rattle.tlv.specs.Slot.{none, sound}
 use Rattle.tlv.specs.Held.{continuationOf}
-use Rattle.tlv.specs.Run.{Slot, State as Slot-state, searching as slot-searching, held, Stepped, Event, lost, given, stops, after, note, readFrom, finished, resumed, arrived, step}
+use Rattle.tlv.specs.Run.{
+  Slot,
+  State as Slot-state,
+  searching as slot-searching,
+  held,
+  Stepped,
+  Event,
+  lost,
+  given,
+  stops,
+  after,
+  note,
+  readFrom,
+  finished,
+  resumed,
+  arrived,
+  step,
+}
 use Rattle.tlv.proofs.Answers.{says, top-inside}
 use Rattle.tlv.proofs.Runs.{step-given}
 use Rattle.intake.specs.declared.held.Cursor.{Cursor}
 use Rattle.intake.specs.declared.held.Held.{Held}
 use Rattle.receiver.specs.declared.state.State.{State}
-use Rattle.intake.specs.Slot.{searching, holding, noted, slotArea, cursorFrom, heldBytes, packetEnd, resumedAs, continuedMem, resumedMem, copied, resumedOf, takenBy, takenOf, lostOf}
+use Rattle.intake.specs.Slot.{
+  searching,
+  holding,
+  noted,
+  slotArea,
+  cursorFrom,
+  heldBytes,
+  packetEnd,
+  resumedAs,
+  continuedMem,
+  resumedMem,
+  copied,
+  resumedOf,
+  takenBy,
+  takenOf,
+  lostOf,
+}
 use Rattle.receiver.specs.State.{withSlot, withIntake}
 use Rattle.receiver.specs.Frame.{lossOf}
 use Rattle.receiver.specs.Slot.{counted, ownOf}
 use Rattle.broadcast.specs.Drains.{HeldIs}
 use Rattle.broadcast.specs.Pending.{Found, slot-notes, a-packet, bare, some-if, cursorPending, cursorLeaves}
 use Rattle.broadcast.specs.SlotClaims.{Short, CursorGood, Same, Reads, slotFrom, OwnSlot, LostSlot, LostFrame}
-use Rattle.broadcast.proofs.SlotMemory.{front-is, part-tail, tail-inside, length-copied, copied-slot, copied-front, length-continued, continued-front}
+use Rattle.broadcast.proofs.SlotMemory.{
+  front-is,
+  part-tail,
+  tail-inside,
+  length-copied,
+  copied-slot,
+  copied-front,
+  length-continued,
+  continued-front,
+}
 use Rattle.broadcast.proofs.SlotCut.{cutGives, cutLeaves, leaves-cut, cutStep, cut-gives, cut-leaves, cut-short}
 use Rattle.broadcast.proofs.SlotFits.{Fits, fits-so}
 use Rattle.broadcast.proofs.Advance.{still, still-good, still-gives, still-leaves}

@@ -15,7 +15,19 @@ use Rattle.mmtp.specs.Flow.{flowOf, compressedOf, behind, compressedHeader}
 use Rattle.mmtp.specs.Header.{headerOf, plain, payloadStart, fixedBytes, extensionBytes, extensionLength}
 use Rattle.mmtp.specs.Watch.{lookupOf, firstFrom}
 use Rattle.mmtp.specs.Packet.{readingOf, headRead, lookedUp, bodyRead}
-use Rattle.mmtp.specs.Payload.{indicatorOf, fragmentTypeOf, mpuOf, signallingOf, parsedOf, counterFits, aggregationFits, unitsFit, tested, payloadOf, piecesOf}
+use Rattle.mmtp.specs.Payload.{
+  indicatorOf,
+  fragmentTypeOf,
+  mpuOf,
+  signallingOf,
+  parsedOf,
+  counterFits,
+  aggregationFits,
+  unitsFit,
+  tested,
+  payloadOf,
+  piecesOf,
+}
 use Rattle.mmtp.specs.Unit.{noFields, fieldBytes, fieldsOf, pieceOf, singleFits}
 use Rattle.reassembly.specs.declared.config.Config.{Config}
 use Rattle.reassembly.specs.Unit.{agrees}

@@ -33,13 +33,46 @@ use Rattle.reassembly.specs.declared.join.Action.{Action}
 use Rattle.reassembly.specs.declared.join.Action.the-variants.{Nothing as NoAction, Whole, Store, Complete}
 use Rattle.reassembly.specs.Unit.{agrees}
 use Rattle.reassembly.specs.Channel.{gap}
-use Rattle.reassembly.specs.Join.{joinOf, acted, actedBy, begun, followed, followedIn, extended, grown, recorded, inPhase, counterFollows}
+use Rattle.reassembly.specs.Join.{
+  joinOf,
+  acted,
+  actedBy,
+  begun,
+  followed,
+  followedIn,
+  extended,
+  grown,
+  recorded,
+  inPhase,
+  counterFollows,
+}
 use Rattle.delivery.specs.Choice.{by-test}
 use Rattle.delivery.specs.declared.queue.Queue.{Queue}
 use Rattle.delivery.specs.declared.packet.Located.{Located}
 use Rattle.delivery.specs.declared.packet.Arrived.{Arrived}
 use Rattle.delivery.specs.declared.packet.Arrived.the-variants.{Silent, Noted, Good}
-use Rattle.delivery.specs.Packet.{readBy, flowBy, arrivedAt, firstUnit, unitOr, unitLen, blankUnit, Room, Reach, placeOf, Fits, Unit₀, collected, bytesAt, unitIn, baseOf, stepOf, pieceFrom, joinedOf, receivedOf}
+use Rattle.delivery.specs.Packet.{
+  readBy,
+  flowBy,
+  arrivedAt,
+  firstUnit,
+  unitOr,
+  unitLen,
+  blankUnit,
+  Room,
+  Reach,
+  placeOf,
+  Fits,
+  Unit₀,
+  collected,
+  bytesAt,
+  unitIn,
+  baseOf,
+  stepOf,
+  pieceFrom,
+  joinedOf,
+  receivedOf,
+}
 
 -- a part of a memory
 module _ (s : List ℕ) (start len : ℕ) where

@@ -4,7 +4,6 @@ ghost use lib.ListN.{drop};
 ghost use Rattle.tlv.specs.Packet.{tooLong};
 ghost use Rattle.delivery.specs.Cursor.{tailAdvanced, slotAdvanced, advancedOf, isEvent, turnOf};
 use crate::event::Event;
-use crate::packet::distance;
 use crate::queue::Queue;
 use crate::queue::take;
 use intake::held::Cursor;
@@ -61,7 +60,7 @@ fn advance_tail(s: &[u8], at: usize, end: usize) -> Advanced
             cursor,
         };
     }
-    let len = distance(at, end);
+    let len = wire::memory::distance(at, end);
     Advanced {
         found: Found::Tail(at, len),
         cursor,

@@ -44,16 +44,6 @@ pub struct JoinedPacket {
     pub queue: Queue,
 }
 
-// How far it is from `start` to `end`; 0 where that lies before.
-pub fn distance(start: usize, end: usize) -> usize
-    ensures { λ r. ⌜ r ≡ end - start ⌝ }
-{
-    if end < start {
-        return 0;
-    }
-    end - start
-}
-
 // An MMTP packet that stands from `start` to `end` in packet memory, by its reading.
 fn locate(reading: Reading, start: usize, end: usize) -> Arrived
     ensures { λ r. ⌜ r ≡ readBy reading start end ⌝ }
@@ -70,7 +60,7 @@ fn locate(reading: Reading, start: usize, end: usize) -> Arrived
 pub fn arrive(config: Config, memory: &[u8], start: usize, end: usize) -> Arrived
     ensures { λ r. ⌜ r ≡ arrivedAt config (now (memory .entry)) start end ⌝ }
 {
-    let len = distance(start, end);
+    let len = wire::memory::distance(start, end);
     let bytes = wire::memory::part(memory, start, len);
     let flow = mmtp::flow::find(bytes, config.cid);
     match flow {
@@ -225,7 +215,7 @@ pub fn join(
     let packet = l.packet;
     let start = l.start;
     let end = l.end;
-    let len = distance(start, end);
+    let len = wire::memory::distance(start, end);
     let m = wire::memory::part(memory, start, len);
     let payload = packet.payload;
     let u = first_unit(m, payload);

@@ -4,7 +4,6 @@ ghost use Rattle.delivery.specs.Queue.{finished, giveBy, takenOf};
 use crate::event::Event;
 use crate::event::Given;
 use crate::packet::Located;
-use crate::packet::distance;
 use crate::packet::whole;
 use mmtp::packet::Packet;
 use mmtp::unit::Step;
@@ -60,7 +59,7 @@ fn take_many(q: Queue, a: Aggregate, memory: &[u8]) -> Taken
     let payload = packet.payload;
     let start = a.start;
     let end = a.end;
-    let len = distance(start, end);
+    let len = wire::memory::distance(start, end);
     let bytes = wire::memory::part(memory, start, len);
     let step = mmtp::unit::unit_at(bytes, a.at, payload.kind, payload.wide);
     match step {

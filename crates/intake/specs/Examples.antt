@@ -9,7 +9,18 @@ use Rattle.tlv.specs.Packet.{goodFirst, total, complete, marked, cutBy, cut}
 use Rattle.tlv.specs.Slot.{endFrom, lastPointer, sound}
 use Rattle.tlv.specs.Held.{endWithin, endBeyond, heldTotal, heldEnd, continuationOf}
 use Rattle.intake.specs.declared.held.Held.{Held}
-use Rattle.intake.specs.Slot.{searching, holding, cursorFrom, resumedAs, movedMem, continuedMem, resumedMem, copied, resumedOf, takenOf}
+use Rattle.intake.specs.Slot.{
+  searching,
+  holding,
+  cursorFrom,
+  resumedAs,
+  movedMem,
+  continuedMem,
+  resumedMem,
+  copied,
+  resumedOf,
+  takenOf,
+}
 
 -- packet memory: 9 up to the slot's place, where the bytes of the slot before stand, and one byte more
 abbrev memory : List ℕ → List ℕ

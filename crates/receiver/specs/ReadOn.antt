@@ -21,7 +21,21 @@ use Rattle.receiver.specs.State.{withOwed, withSlot, withQueue, withChan
 use Rattle.delivery.specs.Packet.{arrivedAt, placeOf, receivedOf}
 use Rattle.delivery.specs.Within.{arrived-fits, length-received}
 use Rattle.receiver.specs.Slot.{shortBy}
-use Rattle.receiver.specs.Next.{Out, answered, arrivedBy, packetOf, past, onwards, readOn, readAll, nextOf, next-short, next-idle, next-reads, short-room}
+use Rattle.receiver.specs.Next.{
+  Out,
+  answered,
+  arrivedBy,
+  packetOf,
+  past,
+  onwards,
+  readOn,
+  readAll,
+  nextOf,
+  next-short,
+  next-idle,
+  next-reads,
+  short-room,
+}
 use Rattle.delivery.specs.Cursor.{turnOf, turn-less, left}
 
 -- what a packet leaves as it was

@@ -44,16 +44,6 @@ fn total_across(held: &[u8], s: &[u8]) -> usize
     4 + (wide(byte_across(held, s, 2)) * 256 + wide(byte_across(held, s, 3)))
 }
 
-// What is left of a total when `n` bytes are held; nothing if they are more.
-fn left(total: usize, n: usize) -> usize
-    ensures { λ r. ⌜ r ≡ total - n ⌝ }
-{
-    if total < n {
-        return 0;
-    }
-    total - n
-}
-
 // No packet starts in the slot: the held one must reach its end, and `last` must say whether it ends there.
 fn without_top(end: usize, len: usize, last: usize) -> Continuation
     ensures { λ r. ⌜ r ≡ endBeyond end len last ⌝ }
@@ -96,7 +86,7 @@ pub fn resume(held: &[u8], s: &[u8], top: u16, last: u16) -> Continuation
     if crate::packet::MAX_PACKET < total {
         return Continuation::TooLong;
     }
-    let end = left(total, n);
+    let end = wire::memory::distance(n, total);
     if top == crate::slot::NONE {
         without_top(end, s.len(), last as usize)
     } else {

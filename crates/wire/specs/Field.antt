@@ -2,7 +2,18 @@
 use Prim.Native.Nat.{ℕ, zero, suc, _+_, _*_, _/_, _%_, _^_, _<_, _≤_}
 use mathlib.Core.Path.{_≡_, refl, sym, _∙_, ap}
 use mathlib.Core.List.{List, [], _∷_, _++_, append-assoc, append-nil}
-use native.Mathlib.Nat.{zero-add, add-zero, add-assoc, add-suc, pow-succ', pow-suc, mul-assoc, mul-comm, div-one, div-div-eq-div-mul}
+use native.Mathlib.Nat.{
+  zero-add,
+  add-zero,
+  add-assoc,
+  add-suc,
+  pow-succ',
+  pow-suc,
+  mul-assoc,
+  mul-comm,
+  div-one,
+  div-div-eq-div-mul,
+}
 use native.Mathlib.Omega.{arith}
 use lib.ListN.{getD, length, drop, length-append}
 use lib.Arith.{mod-mul, digits-div, digits-mod}

@@ -1,6 +1,6 @@
 // Parts of a slice, and copying between slices and within one memory.
 ghost use mathlib.Core.Path.{_≡_};
-ghost use Prim.Native.Nat.{_+_, _≤_};
+ghost use Prim.Native.Nat.{_+_, _-_, _≤_};
 ghost use lib.ListN.{length, drop};
 ghost use Rattle.wire.specs.Memory.{pasted, partOf};
 
@@ -39,4 +39,14 @@ pub fn move_down(mem: &mut [u8], to: usize, from: usize, n: usize)
         mem[to + i] = mem[from + i];
         i += 1;
     }
+}
+
+// How far it is from `start` to `end`; 0 where that lies before.
+pub fn distance(start: usize, end: usize) -> usize
+    ensures { λ r. ⌜ r ≡ end - start ⌝ }
+{
+    if end < start {
+        return 0;
+    }
+    end - start
 }

@@ -4,7 +4,15 @@ use native.Mathlib.Omega.{arith}
 use borrow.Author.Tests.{not-true, not-false}
 use Rattle.receiver.specs.State.{accepted, withIntake}
 use Rattle.intake.specs.Slot.{Out}
-use Rattle.receiver.specs.Slot.{Out as CallOut, ready, right-length, slot-refused, slot-wrong-length, slot-not-own, slot-own}
+use Rattle.receiver.specs.Slot.{
+  Out as CallOut,
+  ready,
+  right-length,
+  slot-refused,
+  slot-wrong-length,
+  slot-not-own,
+  slot-own,
+}
 use borrow.Author.Needs.{needs}
 use Rattle.receiver.proofs.slot.slot.Statement.{statement}
 use Rattle.receiver.proofs.slot.slot.Tie as tie

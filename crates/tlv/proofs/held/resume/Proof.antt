@@ -20,8 +20,8 @@ returns-2 : tie.Need-returns-2
 returns-2 c =
     sym (held-too-long _ _ _ _ (c .before .before .if1 .left) (rw (c .before .total-across .ensures .0) at (c .if2 .taken)))
 
-left-requires : tie.Need-left-requires
-left-requires c κs = search needs
+distance-requires : tie.Need-distance-requires
+distance-requires c κs = search needs
 
 without-top-requires : tie.Need-without-top-requires
 without-top-requires c κs = search needs
@@ -30,10 +30,10 @@ before-top-requires-2 : tie.Need-before-top-requires-2
 before-top-requires-2 c κs = search needs
 
 -- past the tests of length and total: where the held packet ends
-ends : (d : tie.After-left)
-    → let a = d .before .before .before .before .before .before .args in d .left .result ≡ heldEnd (a .held .now) (a .s .now)
+ends : (d : tie.After-distance)
+    → let a = d .before .before .before .before .before .before .args in d .distance .result ≡ heldEnd (a .held .now) (a .s .now)
 unfolding heldEnd
-ends d = rw (d .left .ensures, d .before .before .total-across .ensures .0)
+ends d = rw (d .distance .ensures, d .before .before .total-across .ensures .0)
 
 -- and that its total is kept
 kept : (d : tie.Else2) → let a = d .before .before .before .before .before .args in heldTotal (a .held .now) (a .s .now) ≤ maxPacket
@@ -59,7 +59,7 @@ resume-spec =
     returns
     total-across-requires
     returns-2
-    left-requires
+    distance-requires
     without-top-requires
     before-top-requires-2
     returns-3

@@ -1,0 +1,119 @@
+-- The slot cutter: refusals 75 to 78 in this order, or slot s of a run with its pointers.
+use Prim.Native.Nat.{ℕ, _+_, _*_, _≤_, _<_}
+use mathlib.Core.Path.{_≡_, refl}
+use mathlib.Core.Bool.{Bool, true, false, cond, _&&_, not}
+use mathlib.Core.List.{List}
+use native.Mathlib.Nat.{suc-mul}
+use native.Mathlib.Numerals.{add-one}
+use native.Mathlib.Omega.{arith}
+use lib.ListN.{length, take, drop}
+use lib.Dec.{eqb, ltb}
+use borrow.Author.Tests.{lt-ltb, le-ltb, eq-eqb, ne-eqb, ltb-false, eqb-true}
+use Rattle.tmcc.specs.Count.{allBelow}
+use Rattle.tmcc.specs.Mode.{dataBytes}
+use Rattle.tlv.specs.Packet.{cut}
+use Rattle.tlv.specs.Run.{Slot}
+use Rattle.cutter.specs.declared.slot.CutSlot.{CutSlot}
+use Rattle.cutter.specs.Pointers.{topOf, lastOf}
+
+-- whole TLV packets, each starting 01
+unfoldable pub whole : List ℕ → Bool
+whole run = cut run .good && eqb (length (cut run .tail)) 0
+
+-- L is not in the table: no code rate, 1 to 11, has L data bytes
+abbrev pub otherRate : ℕ → ℕ → Bool
+otherRate l k = not (eqb (dataBytes (k + 1)) l)
+
+unfoldable pub unlisted : ℕ → Bool
+unlisted l = allBelow (otherRate l) 11
+
+-- the first refusal of a call whose output has n bytes; 0 for none
+unfoldable pub refusalOf : List ℕ → ℕ → ℕ → ℕ → ℕ
+refusalOf run l s n =
+    cond (whole run)
+    (cond (unlisted l) 76
+    (cond (ltb (length run) ((s + 1) * l)) 77
+    (cond (eqb n l) 0 78)))
+    75
+
+-- slot s, "bytes s × L up to (s + 1) × L", with its pointers
+unfoldable pub slotAt : List ℕ → ℕ → ℕ → Slot
+slotAt run l s = record { top = topOf run (s * l) l; last = lastOf run (s * l) l; bytes = take l (drop (s * l) run) }
+
+-- "Refused calls return the number only": both pointers are then 0
+abbrev pub refused : ℕ → CutSlot
+refused n = record { refusal = n; top = 0; last = 0 }
+
+abbrev pub pointed : Slot → CutSlot
+pointed x = record { refusal = 0; top = x .top; last = x .last }
+
+-- what the call answers, and what the output then is: the slot's bytes, or as it was
+unfoldable pub slotOf : List ℕ → ℕ → ℕ → List ℕ → CutSlot × List ℕ
+slotOf run l s output =
+    let r = refusalOf run l s (length output) in
+    cond (eqb r 0) (pointed (slotAt run l s), slotAt run l s .bytes) (refused r, output)
+
+-- by cases: the four refusals
+module _ (run : List ℕ) (l s n : ℕ) where
+  pub refused-run : whole run ≡ false → refusalOf run l s n ≡ 75
+  unfolding refusalOf
+  refused-run w = rw w
+
+  module _ (w : whole run ≡ true) where
+    pub refused-length : unlisted l ≡ true → refusalOf run l s n ≡ 76
+    unfolding refusalOf
+    refused-length u = rw (w, u)
+
+    module _ (u : unlisted l ≡ false) where
+      pub refused-past : length run < (s + 1) * l → refusalOf run l s n ≡ 77
+      unfolding refusalOf
+      refused-past h = rw (w, u, lt-ltb _ _ h)
+
+      pub refused-output : (s + 1) * l ≤ length run → (n ≡ l → ⊥) → refusalOf run l s n ≡ 78
+      unfolding refusalOf
+      refused-output h e = rw (w, u, le-ltb _ _ h, ne-eqb _ _ e)
+
+-- what an accepted call keeps to
+pub record Accepted (run : List ℕ) (l s n : ℕ) : Type 0 where
+  pub packets : whole run ≡ true
+  pub listed : unlisted l ≡ false
+  pub within : (s + 1) * l ≤ length run
+  pub fits : n ≡ l
+
+pub accepts : (run : List ℕ) (l s n : ℕ) → Accepted run l s n → refusalOf run l s n ≡ 0
+unfolding refusalOf
+accepts run l s n a = rw (a .packets, a .listed, le-ltb _ _ (a .within), eq-eqb _ _ (a .fits))
+
+-- and what no refusal says
+if-zero : (t : Bool) (a b : ℕ) → cond t a b ≡ 0 → (b ≡ 0 → ⊥) → (t ≡ true) × (a ≡ 0)
+if-zero true a b e n = (refl, e)
+if-zero false a b e n = absurd (n e)
+
+else-zero : (t : Bool) (a b : ℕ) → cond t a b ≡ 0 → (a ≡ 0 → ⊥) → (t ≡ false) × (b ≡ 0)
+else-zero true a b e n = absurd (n e)
+else-zero false a b e n = (refl, e)
+
+pub accepted : (run : List ℕ) (l s n : ℕ) → refusalOf run l s n ≡ 0 → Accepted run l s n
+unfolding refusalOf
+accepted run l s n e =
+    let p = if-zero (whole run) _ _ e (λ z. omega arith) in
+    let q = else-zero (unlisted l) _ _ (p .1) (λ z. omega arith) in
+    let r = else-zero (ltb (length run) ((s + 1) * l)) _ _ (q .1) (λ z. omega arith) in
+    let t = if-zero (eqb n l) _ _ (r .1) (λ z. omega arith) in
+    record { packets = p .0; listed = q .0; within = ltb-false _ _ (r .0); fits = eqb-true _ _ (t .0) }
+
+-- the slot lies in the run
+pub slot-within : (run : List ℕ) (l s n : ℕ) → Accepted run l s n → s * l + l ≤ length run
+slot-within run l s n a = rw (add-one, suc-mul) at (a .within)
+
+-- the call, refused and accepted
+module _ (run : List ℕ) (l s : ℕ) (output : List ℕ) where
+  pub slot-refused : (refusalOf run l s (length output) ≡ 0 → ⊥)
+      → slotOf run l s output ≡ (refused (refusalOf run l s (length output)), output)
+  unfolding slotOf
+  slot-refused n = rw (ne-eqb _ _ n)
+
+  pub slot-cut : refusalOf run l s (length output) ≡ 0
+      → slotOf run l s output ≡ (pointed (slotAt run l s), slotAt run l s .bytes)
+  unfolding slotOf
+  slot-cut z = rw z

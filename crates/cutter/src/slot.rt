@@ -1,0 +1,79 @@
+// A slot cut from a run, or the first refusal that the call meets.
+ghost use mathlib.Core.Path.{_≡_};
+ghost use lib.ListN.{length};
+ghost use Rattle.cutter.specs.Slot.{whole, unlisted, refusalOf, slotOf};
+use tlv::packet::Walked;
+
+// `refusal` is 0 for a slot that was cut, and else 75 to 78 with both pointers 0.
+pub struct CutSlot {
+    pub refusal: u8,
+    pub top: u16,
+    pub last: u16,
+}
+
+// Whether a run is whole TLV packets with good first bytes.
+fn is_whole(run: &[u8]) -> bool
+    ensures { λ r. ⌜ r ≡ whole (now (run .entry)) ⌝ }
+{
+    let w = tlv::packet::walk(run, 0);
+    match w {
+        Walked::Unmarked => false,
+        Walked::Tail(end) => end == run.len(),
+    }
+}
+
+// Whether no code rate has `l` data bytes.
+fn is_unlisted(l: usize) -> bool
+    ensures { λ r. ⌜ r ≡ unlisted l ⌝ }
+{
+    let mut rate: u8 = 0;
+    while rate < 11 {
+        if tmcc::mode::data_bytes(rate + 1) as usize == l {
+            return false;
+        }
+        rate += 1;
+    }
+    true
+}
+
+// Refusals 75 to 78; 0 for none. `n` is the output's length.
+fn refusal(run: &[u8], l: usize, s: usize, n: usize) -> u8
+    ensures { λ r. ⌜ r ≡ refusalOf (now (run .entry)) l s n ⌝ }
+{
+    if !is_whole(run) {
+        return 75;
+    }
+    if is_unlisted(l) {
+        return 76;
+    }
+    // The slots that the run fills: the product (s + 1) × L may not fit.
+    if run.len() / l <= s {
+        return 77;
+    }
+    if n != l {
+        return 78;
+    }
+    0
+}
+
+// Copies slot `s` of `l` bytes of a run to `output`, and gives its pointers.
+pub fn cut_slot(run: &[u8], l: usize, s: usize, output: &mut [u8]) -> CutSlot
+    ensures { λ r. ⌜ (r, now (output .exit)) ≡ slotOf (now (run .entry)) l s (now (output .entry)) ⌝ }
+{
+    let refusal = refusal(run, l, s, output.len());
+    if refusal != 0 {
+        return CutSlot {
+            refusal,
+            top: 0,
+            last: 0,
+        };
+    }
+    let from = s * l;
+    let p = crate::pointers::find(run, from, l);
+    wire::memory::copy_at(output, 0, &run[from..from + l]);
+    CutSlot {
+        refusal: 0,
+        top: p.0,
+        last: p.1,
+    }
+}

@@ -1,0 +1,82 @@
+-- Why write_outer meets its contract: its fields, one behind the other.
+use Prim.Native.Nat.{_+_, _*_}
+use mathlib.Core.Path.{refl}
+use mathlib.Core.List.{[], _∷_}
+use native.Mathlib.Omega.{arith}
+use Rattle.wire.specs.Field.{bytesOf}
+use Rattle.packer.specs.Packet.{outerHead}
+use Rattle.packer.proofs.Written.{wrote, behind}
+use borrow.Author.Needs.{needs}
+use Rattle.packer.proofs.packet.write_outer.Statement.{statement}
+use Rattle.packer.proofs.packet.write_outer.Tie as tie
+
+write8-requires : tie.Need-write8-requires
+write8-requires c κs = search needs
+
+add-write8 : tie.Need-add-write8
+add-write8 c = search needs
+
+write8-requires-2 : tie.Need-write8-requires-2
+write8-requires-2 c κs = search needs
+
+add-write16 : tie.Need-add-write16
+add-write16 c = search needs
+
+write16-requires : tie.Need-write16-requires
+write16-requires c κs = search needs
+
+add-write16-2 : tie.Need-add-write16-2
+add-write16-2 c = search needs
+
+mul-write16 : tie.Need-mul-write16
+mul-write16 c = search needs
+
+add-write16-3 : tie.Need-add-write16-3
+add-write16-3 c = search needs
+
+write16-requires-2 : tie.Need-write16-requires-2
+write16-requires-2 c κs = search needs
+
+add-write8-2 : tie.Need-add-write8-2
+add-write8-2 c = search needs
+
+write8-requires-3 : tie.Need-write8-requires-3
+write8-requires-3 c κs = search needs
+
+same-length : tie.Need-same-length
+same-length c = search needs
+
+returns : tie.Need-returns
+unfolding outerHead bytesOf
+returns c =
+    let w5 = c .before .before in
+    let w4 = w5 .before .before .before .before in
+    let w3 = w4 .before .before .before .before in
+    let w2 = w3 .before .before .before .before in
+    let w1 = w2 .before .before .before .before in
+    let g = w1 .before .before .before in
+    let a = g .args in
+    let h = g .pre .0 in
+    let e1 = wrote (a .output .now) (a .at) _ (0x7F ∷ []) 1 (w1 .write8 .ensures) refl in
+    let e2 = behind e1 _ (3 ∷ []) 1 (a .at + 1) (w2 .write82 .ensures) refl refl (omega arith) in
+    let e3 = behind e2 _ (bytesOf 2 (a .len)) 2 (a .at + 2) (w3 .write16 .ensures) refl refl (omega arith) in
+    let e4 = behind e3 _ (bytesOf 2 (a .cid * 16 + a .sn)) 2 (a .at + 4) (w4 .write162 .ensures) refl refl (omega arith) in
+    behind e4 _ (0x61 ∷ []) 1 (a .at + 6) (w5 .write83 .ensures) refl refl (omega arith) .is
+
+pub write-outer-spec : {M : Type 1} → statement M
+write-outer-spec =
+    tie.close
+    (tie.spec
+    write8-requires
+    add-write8
+    write8-requires-2
+    add-write16
+    write16-requires
+    add-write16-2
+    mul-write16
+    add-write16-3
+    write16-requires-2
+    add-write8-2
+    write8-requires-3
+    same-length
+    returns)

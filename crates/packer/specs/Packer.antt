@@ -1,0 +1,77 @@
+-- The packer: a unit's packets one behind the other, or one of its refusals.
+use Prim.Native.Nat.{ℕ, _+_, _*_, _%_, _≤_, _<_}
+use mathlib.Core.Path.{_≡_}
+use mathlib.Core.Bool.{cond}
+use mathlib.Core.List.{List, [], _∷_, _++_}
+use lib.ListN.{length, take, drop}
+use lib.Dec.{eqb, ltb}
+use Rattle.wire.specs.Memory.{pasted}
+use Rattle.reassembly.specs.declared.unit.Unit.{Unit}
+use Rattle.packer.specs.declared.pack.Packed.{Packed}
+use Rattle.packer.specs.declared.pack.Plan.{Plan}
+use Rattle.packer.specs.Pieces.{pieces, countOf, pieceAt}
+use Rattle.packer.specs.Packet.{packetOf, headBytes}
+
+-- packet `i` of `n`; "SN (modulo 16) rising by one from the caller's"
+unfoldable pub packetAt : Unit → ℕ → ℕ → ℕ → ℕ → List ℕ → List ℕ
+packetAt u cid sn n i s = packetOf cid ((sn + i) % 16) (pieceAt u n i (length s)) s
+
+-- the packets of the pieces from `i` on
+unfoldable pub packetsFrom : Unit → ℕ → ℕ → ℕ → ℕ → List (List ℕ) → List (List ℕ)
+packetsFrom u cid sn n i [] = []
+packetsFrom u cid sn n i (s ∷ rest) = packetAt u cid sn n i s ∷ packetsFrom u cid sn n (i + 1) rest
+
+unfoldable pub packets : Unit → ℕ → ℕ → ℕ → List ℕ → List (List ℕ)
+packets u cid sn m s = packetsFrom u cid sn (length (pieces m s)) 0 (pieces m s)
+
+-- one behind the other
+unfoldable pub joined : List (List ℕ) → List ℕ
+joined [] = []
+joined (p ∷ ps) = p ++ joined ps
+
+unfoldable pub run : Unit → ℕ → ℕ → ℕ → List ℕ → List ℕ
+run u cid sn m s = joined (packets u cid sn m s)
+
+-- "70 piece size m not 1 to 1,400; 71 kind above 4; 72 over 256 pieces; 73 output short; 74 CID above 4,095", in this order:
+-- `n` pieces, a run of `len` bytes, an output of `room`
+unfoldable pub refusalOf : ℕ → ℕ → ℕ → ℕ → ℕ → ℕ → ℕ
+refusalOf m kind n len room cid =
+    cond (eqb m 0) 70
+    (cond (ltb 1400 m) 70 (cond (ltb 4 kind) 71 (cond (ltb 256 n) 72 (cond (ltb room len) 73 (cond (ltb 4095 cid) 74 0)))))
+
+-- a run written "from output byte 0 on"
+unfoldable pub packed : List ℕ → List ℕ → List ℕ
+packed r out = pasted out 0 r (length r)
+
+-- "Refused calls return the number only"
+abbrev pub refusedWith : ℕ → Packed
+refusedWith refusal = record { refusal = refusal; len = 0 }
+
+-- the answer, which "returns the length", and the output
+unfoldable pub packOf : Unit → ℕ → ℕ → ℕ → List ℕ → List ℕ → Packed × List ℕ
+packOf u cid sn m s out =
+    let r = run u cid sn m s in
+    let refusal = refusalOf m (u .kind) (length (pieces m s)) (length r) (length out) cid in
+    cond (eqb refusal 0) (record { refusal = 0; len = length r }, packed r out) (refusedWith refusal, out)
+
+-- what the writing of a plan asks for: `len` bytes to be packed, an output of `room`
+pub record Planned (p : Plan) (len room : ℕ) : Type 0 where
+  pub positive : 0 < p .m
+  pub small : p .m ≤ 1400
+  pub kinds : p .unit .kind ≤ 4
+  pub cids : p .cid < 4096
+  pub counted : p .n ≡ countOf (p .m) len
+  pub few : p .n ≤ 256
+  pub fits : p .n * headBytes (p .unit .kind) + len ≤ room
+
+abbrev pub plannedRun : Plan → List ℕ → List ℕ
+plannedRun p s = run (p .unit) (p .cid) (p .sn) (p .m) s
+
+-- the packet of piece `i` of a plan
+abbrev pub planned : Plan → ℕ → List ℕ → List ℕ
+planned p i s = packetAt (p .unit) (p .cid) (p .sn) (p .n) i (take (p .m) (drop (i * p .m) s))
+
+-- a packet `t` written at `at`: the output, and where the packet ends
+pub record Writes (t : List ℕ) (at end : ℕ) (before after : List ℕ) : Type 0 where
+  pub ends : end ≡ at + length t
+  pub writes : after ≡ pasted before at t (length t)

@@ -1,0 +1,3 @@
+-- What is proved of the worked example beside its code.
+pub mod Quiet
+pub mod Outcome

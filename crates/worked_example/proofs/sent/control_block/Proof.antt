@@ -1,0 +1,52 @@
+-- Why `control_block` meets its contract: by computation, each write after the other.
+use Rattle.wire.specs.Field.{bytesOf}
+use Rattle.wire.specs.Memory.{pasted}
+use Rattle.worked_example.specs.Sent.{controlBlock}
+use borrow.Author.Needs.{needs}
+use Rattle.worked_example.proofs.sent.control_block.Statement.{statement}
+use Rattle.worked_example.proofs.sent.control_block.Tie as tie
+use Rattle.wire.proofs.field.write16.Reads as write16-reads
+
+slice-aggregate-copy-at : tie.Need-slice-aggregate-copy-at
+slice-aggregate-copy-at c = search needs
+
+slice-aggregate-copy-at-2 : tie.Need-slice-aggregate-copy-at-2
+slice-aggregate-copy-at-2 c = search needs
+
+copy-at-requires : tie.Need-copy-at-requires
+copy-at-requires c κs = search needs
+
+slice-aggregate-write16 : tie.Need-slice-aggregate-write16
+slice-aggregate-write16 c = search needs
+
+write16-requires : tie.Need-write16-requires
+write16-requires c κs = search needs
+
+slice-aggregate-write16-2 : tie.Need-slice-aggregate-write16-2
+slice-aggregate-write16-2 c = search needs
+
+write16-requires-2 : tie.Need-write16-requires-2
+write16-requires-2 c κs = search needs
+
+array-write-block : tie.Need-array-write-block
+array-write-block c = search needs
+
+returns : tie.Need-returns
+unfolding bytesOf pasted controlBlock
+returns c =
+    let w = c .before .before .before .before in
+    rw (c .before .write162 .ensures, w .write16 .ensures, w .before .before .before .copy-at .ensures)
+
+pub control-block-spec : {M : Type 1} → statement M
+control-block-spec =
+    tie.close
+    (tie.spec
+    slice-aggregate-copy-at
+    slice-aggregate-copy-at-2
+    copy-at-requires
+    slice-aggregate-write16
+    write16-requires
+    slice-aggregate-write16-2
+    write16-requires-2
+    array-write-block
+    returns)

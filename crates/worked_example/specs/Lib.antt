@@ -1,0 +1,6 @@
+-- What the worked example sends, and what reading it comes to.
+pub mod Sent
+pub mod Line
+pub mod Count
+pub mod Reading
+pub mod Outcome

@@ -1,0 +1,274 @@
+//! Capture: commands in, lines out. Bytes may come in blocks of any size.
+
+use std::io::{self, Read, Write};
+
+use crate::calls::{self, Event, Receiver};
+use crate::control_block::BLOCK_LEN;
+use crate::fields::{be16, be32};
+use crate::packets::MAX_IDS;
+use crate::slots::PACKET_MEMORY;
+use crate::Refusal;
+
+/// Collecting bytes that the program lends.
+pub const COLLECTING: usize = 65_536;
+/// Length of C with its operands: stream, CID, n, sixteen ids, R.
+pub const START_LEN: usize = 1 + 2 + 2 + 1 + 2 * MAX_IDS + 4;
+
+const READ_BLOCK: usize = 65_536;
+
+enum Stage {
+    /// Only C is known.
+    Fresh,
+    /// Every command but C is known.
+    Running(Box<Receiver>),
+    Ended,
+}
+
+/// How far a command can be told from its first bytes.
+enum Command {
+    Known(usize),
+    /// More bytes are needed to tell its length.
+    Cut,
+    Unknown,
+}
+
+/// A capture being read.
+pub struct Capture {
+    stage: Stage,
+    /// A command of which not all bytes have come.
+    partial: Vec<u8>,
+    packet_memory: Vec<u8>,
+    collecting: Vec<u8>,
+    frames: u64,
+    slot: u64,
+    units: u64,
+    notes: u64,
+}
+
+impl Default for Capture {
+    fn default() -> Self {
+        Capture {
+            stage: Stage::Fresh,
+            partial: Vec::new(),
+            packet_memory: vec![0; PACKET_MEMORY],
+            collecting: vec![0; COLLECTING],
+            frames: 0,
+            slot: 0,
+            units: 0,
+            notes: 0,
+        }
+    }
+}
+
+impl Capture {
+    /// Whether further bytes can change nothing.
+    pub fn ended(&self) -> bool {
+        matches!(self.stage, Stage::Ended)
+    }
+
+    /// Reads a block; its lines are appended to `lines`.
+    pub fn feed(&mut self, block: &[u8], lines: &mut Vec<u8>) {
+        let mut rest = block;
+        while !self.partial.is_empty() && !rest.is_empty() && !self.ended() {
+            rest = self.complete(rest, lines);
+        }
+        while !rest.is_empty() && !self.ended() {
+            match self.command(rest) {
+                Command::Known(len) if len <= rest.len() => {
+                    self.carry_out(&rest[..len], lines);
+                    rest = &rest[len..];
+                }
+                Command::Unknown => self.stage = Stage::Ended,
+                _ => {
+                    self.partial.extend_from_slice(rest);
+                    rest = &[];
+                }
+            }
+        }
+    }
+
+    /// Tops the partial command up from the block, and carries it out once it is whole.
+    fn complete<'a>(&mut self, block: &'a [u8], lines: &mut Vec<u8>) -> &'a [u8] {
+        let due = match self.command(&self.partial) {
+            Command::Known(len) => len - self.partial.len(),
+            _ => 1,
+        };
+        let (taken, rest) = block.split_at(due.min(block.len()));
+        self.partial.extend_from_slice(taken);
+        if let Command::Known(len) = self.command(&self.partial) {
+            if len == self.partial.len() {
+                let mut whole = std::mem::take(&mut self.partial);
+                self.carry_out(&whole, lines);
+                whole.clear();
+                self.partial = whole;
+            }
+        }
+        rest
+    }
+
+    /// The end of the input: a cut command isn't carried out. Writes the last line.
+    pub fn finish(self, lines: &mut Vec<u8>) {
+        put_line(lines, b"end", &[self.frames, self.units, self.notes], b"");
+    }
+
+    fn command(&self, bytes: &[u8]) -> Command {
+        let running = matches!(self.stage, Stage::Running(_));
+        match (bytes[0], running) {
+            (b'C', false) => Command::Known(START_LEN),
+            (b'F', true) => Command::Known(1 + BLOCK_LEN),
+            (b'X' | b'L', true) => Command::Known(1),
+            (b'S', true) if bytes.len() < 3 => Command::Cut,
+            (b'S', true) => Command::Known(3 + usize::from(be16(bytes, 1))),
+            _ => Command::Unknown,
+        }
+    }
+
+    fn carry_out(&mut self, command: &[u8], lines: &mut Vec<u8>) {
+        if let Err(number) = self.call(command, lines) {
+            put_line(lines, b"refused", &[u64::from(number)], b"");
+            self.stage = Stage::Ended;
+        }
+    }
+
+    fn call(&mut self, command: &[u8], lines: &mut Vec<u8>) -> Result<(), Refusal> {
+        let Stage::Running(receiver) = &mut self.stage else {
+            self.stage = Stage::Running(Box::new(start(command)?));
+            return Ok(());
+        };
+        match command[0] {
+            b'F' => {
+                receiver.frame(&command[1..])?;
+                self.frames += 1;
+                self.slot = 0;
+                return Ok(());
+            }
+            b'X' => {
+                receiver.lost_frame()?;
+                self.frames += 1;
+                self.slot = 0;
+            }
+            b'S' => {
+                receiver.slot(&command[3..], &mut self.packet_memory, &self.collecting)?;
+                self.slot += 1;
+            }
+            _ => {
+                receiver.lost_slot(&self.packet_memory, &self.collecting)?;
+                self.slot += 1;
+            }
+        }
+        self.drain(lines)
+    }
+
+    /// Calls next until nothing waits.
+    fn drain(&mut self, lines: &mut Vec<u8>) -> Result<(), Refusal> {
+        let Stage::Running(receiver) = &mut self.stage else {
+            return Ok(());
+        };
+        let place = [self.frames, self.slot];
+        loop {
+            match receiver.next(&self.packet_memory, &mut self.collecting)? {
+                Event::Nothing => return Ok(()),
+                Event::Note { number, packet_id } => {
+                    self.notes += 1;
+                    put_numbers(lines, &place);
+                    match packet_id {
+                        Some(id) => put_line(lines, b"note", &[number.into(), id.into()], b""),
+                        None => put_line(lines, b"note", &[number.into()], b" -"),
+                    }
+                }
+                Event::Unit(unit) => {
+                    self.units += 1;
+                    let shown = calls::show(&unit, &self.packet_memory, &self.collecting);
+                    put_numbers(lines, &place);
+                    let (id, kind) = (unit.packet_id.into(), unit.kind.into());
+                    let (psn, mpu) = (unit.psn.into(), unit.mpu.into());
+                    put_line(
+                        lines,
+                        b"unit",
+                        &[id, kind, psn, mpu, shown.len() as u64],
+                        b"",
+                    );
+                }
+            }
+        }
+    }
+}
+
+/// C's operands.
+fn start(command: &[u8]) -> Result<Receiver, Refusal> {
+    let mut ids = [0; MAX_IDS];
+    for (k, id) in ids.iter_mut().enumerate() {
+        *id = be16(command, 6 + 2 * k);
+    }
+    let joined_max = be32(command, 6 + 2 * MAX_IDS);
+    let (stream_id, cid) = (be16(command, 1), be16(command, 3));
+    calls::start(stream_id, cid, command[5], &ids, joined_max)
+}
+
+/// Numbers, each with a space after it.
+fn put_numbers(lines: &mut Vec<u8>, numbers: &[u64]) {
+    for &number in numbers {
+        put_decimal(lines, number);
+        lines.push(b' ');
+    }
+}
+
+/// A word, numbers with a space before each, and the end of the line.
+fn put_line(lines: &mut Vec<u8>, word: &[u8], numbers: &[u64], after: &[u8]) {
+    lines.extend_from_slice(word);
+    for &number in numbers {
+        lines.push(b' ');
+        put_decimal(lines, number);
+    }
+    lines.extend_from_slice(after);
+    lines.push(b'\n');
+}
+
+fn put_decimal(lines: &mut Vec<u8>, mut number: u64) {
+    let mut digits = [0; 20];
+    let mut at = digits.len();
+    loop {
+        at -= 1;
+        digits[at] = b'0' + (number % 10) as u8;
+        number /= 10;
+        if number == 0 {
+            break;
+        }
+    }
+    lines.extend_from_slice(&digits[at..]);
+}
+
+/// The lines of a whole capture.
+pub fn lines_of(capture: &[u8]) -> Vec<u8> {
+    let mut lines = Vec::new();
+    let mut reading = Capture::default();
+    reading.feed(capture, &mut lines);
+    reading.finish(&mut lines);
+    lines
+}
+
+/// Writes the lines of a whole capture.
+pub fn write_lines(capture: &[u8], output: &mut impl Write) -> io::Result<()> {
+    output.write_all(&lines_of(capture))
+}
+
+/// Reads a capture to its end, or to the command that ends it, and writes its lines on the way.
+pub fn run(mut input: impl Read, mut output: impl Write) -> io::Result<()> {
+    let mut reading = Capture::default();
+    let mut block = vec![0; READ_BLOCK];
+    let mut lines = Vec::new();
+    while !reading.ended() {
+        let len = match input.read(&mut block) {
+            Ok(0) => break,
+            Ok(len) => len,
+            Err(error) if error.kind() == io::ErrorKind::Interrupted => continue,
+            Err(error) => return Err(error),
+        };
+        reading.feed(&block[..len], &mut lines);
+        output.write_all(&lines)?;
+        lines.clear();
+    }
+    reading.finish(&mut lines);
+    output.write_all(&lines)?;
+    output.flush()
+}

@@ -1,0 +1,164 @@
+//! Boundary cases, one after another: held bytes against t and last, and packets cut at every byte.
+
+use super::broadcast::{assemble, Broadcast};
+use super::commands::{self, Commands};
+use super::layout::{self, set_pointers, FramePlan};
+use super::packet::Item;
+use super::prng::Prng;
+use super::sender::{Config, Sender};
+use crate::slots::NO_POINTER;
+
+const LEN: usize = 1_870;
+/// BPSK 1/3: 24 live slots of 1,870 bytes.
+const SHORTEST: [(u8, u8); 1] = [(0x11, 120)];
+const FRAMES: usize = 4;
+const CASES: usize = 7 * 11 * 10 * 4;
+/// Captures that go through all cases of held bytes.
+pub const HELD_CAPTURES: u64 = (CASES / (FRAMES * 12) + 1) as u64;
+
+fn config() -> Config {
+    Config {
+        stream_id: 1,
+        cid: 5,
+        ids: vec![7, 9],
+        joined_max: 100,
+    }
+}
+
+fn full_frame(rng: &mut Prng) -> FramePlan {
+    layout::full_frame_of(rng, config().stream_id, &SHORTEST)
+}
+
+/// Pairs of slots: the first ends with some bytes of a packet, the second goes on as the case says.
+pub fn held(number: u64) -> Commands {
+    let mut rng = Prng::new(number);
+    let mut case = number as usize * FRAMES * 12 % CASES;
+    let mut out = vec![commands::start(&config())];
+    let mut second = None;
+    for _ in 0..FRAMES {
+        let plan = full_frame(&mut rng);
+        let (mut block, mut slots) = (plan.block, Vec::new());
+        for (s, slot) in plan.slots.iter().enumerate() {
+            if !slot.own {
+                slots.extend(commands::slot(&[]));
+                continue;
+            }
+            let (data, top, last) = match second.take() {
+                Some(after) => after,
+                None => {
+                    let (first, after) = pair(case % CASES);
+                    case += 1;
+                    second = Some(after);
+                    first
+                }
+            };
+            set_pointers(&mut block, s, top, last);
+            slots.extend(commands::slot(&data));
+        }
+        out.push(commands::frame(&block));
+        out.push(slots);
+    }
+    out
+}
+
+type Slot = (Vec<u8>, u16, u16);
+
+/// The two slots of a case.
+fn pair(case: usize) -> (Slot, Slot) {
+    let (held, case) = (case % 7, case / 7);
+    let (which_total, case) = (case % 11, case / 11);
+    let (which_top, which_last) = (case % 10, case / 10);
+    let ends = [
+        held + LEN - 1,
+        held + LEN,
+        held + LEN + 1,
+        16_384,
+        16_385,
+        65_539,
+    ];
+    let total = match which_total {
+        0..=4 => 4 + which_total,
+        i => ends[i - 5],
+    };
+    let packet = packet(0x41, total);
+    let mut first = self::packet(0x42, LEN - held);
+    first.extend(&packet[..held.min(total)]);
+    first.resize(LEN, 0x7F);
+    let due = total.saturating_sub(held);
+    let tops = [
+        0,
+        1,
+        2,
+        3,
+        due.saturating_sub(1),
+        due,
+        due + 1,
+        LEN - 2,
+        LEN - 1,
+        0xFFFF,
+    ];
+    let top = tops[which_top];
+    let mut second = packet[held.min(total)..].to_vec();
+    second.truncate(LEN.min(top));
+    second.resize(LEN.min(top), 0x7F);
+    let right = fill(&mut second);
+    let last = [right, NO_POINTER, LEN as u16, top as u16][which_last];
+    let first_end = if held == 0 { LEN } else { LEN - held } as u16;
+    ((first, 0, first_end), (second, top as u16, last))
+}
+
+/// Fills the slot up with packets; gives the last pointer.
+fn fill(data: &mut Vec<u8>) -> u16 {
+    let mut last = if data.is_empty() || data.len() == LEN {
+        NO_POINTER
+    } else {
+        data.len() as u16
+    };
+    while data.len() < LEN {
+        let room = LEN - data.len();
+        let whole = packet(0x43, 600.min(room.max(4)));
+        data.extend(&whole[..whole.len().min(room)]);
+        if whole.len() <= room {
+            last = data.len() as u16;
+        }
+    }
+    last
+}
+
+/// A null packet of `total` bytes that shows where it begins.
+fn packet(first: u8, total: usize) -> Vec<u8> {
+    let mut out = vec![0xEE; total];
+    out[..2].copy_from_slice(&[first, 0xFF]);
+    out[2..4].copy_from_slice(&((total - 4) as u16).to_be_bytes());
+    out
+}
+
+/// Good packets, each also cut at every byte.
+pub fn cuts(seed: u64) -> Broadcast {
+    let mut rng = Prng::new(seed);
+    let plans = vec![full_frame(&mut rng)];
+    let mut sender = Sender::new(Prng::new(seed ^ 0xC0), config());
+    let mut items = Vec::new();
+    let mut len = 0;
+    while len < 24 * LEN {
+        sender.step();
+        let Some(Item::Flow(spec)) = sender.items.last() else {
+            continue;
+        };
+        let most = spec.bytes().len() - 4;
+        if most > 150 {
+            continue;
+        }
+        for cut in 0..=most {
+            let mut spec = spec.clone();
+            spec.cut = Some(cut);
+            if rng.chance(1, 2) && !spec.signalling() {
+                // As if the payload's length knew of the cut.
+                spec.length_error = 0u16.wrapping_sub((most - cut) as u16);
+            }
+            len += 4 + cut;
+            items.push(Item::Flow(spec));
+        }
+    }
+    assemble(&mut rng, config(), plans, 0, &items, Vec::new())
+}
