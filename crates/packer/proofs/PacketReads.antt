@@ -33,10 +33,11 @@ use Rattle.mmtp.specs.Unit.{fieldBytes, noFields, timedFields as timedRead, ite
 use Rattle.reassembly.specs.declared.unit.Unit.{Unit}
 use Rattle.reassembly.specs.declared.join.Piece.{Piece}
 use Rattle.packer.specs.Packet.{outerHead, payloadType, mmtpHead, indicatorBits, fragmentBits, mpuHead, signallingHead}
-use Rattle.packer.specs.Packet.{payloadHead, payloadHeadBytes, timedFields, fieldsWritten, dataUnit, mmtpOf, packetOf}
+use Rattle.packer.specs.Packet.{payloadHead, timedFields, fieldsWritten, dataUnit, mmtpOf, packetOf}
 use Rattle.packer.specs.Pieces.{pieces, indicatorAt, counterAt, withPsn, pieceAt}
 use Rattle.packer.specs.Packer.{packetAt, packetsFrom, packets}
 use Rattle.packer.specs.Reads.{ownFields, Packable, meant, WholePacket, AllWhole, ReadAs, PacketRead, AllRead, PacketsRead}
+use Rattle.packer.specs.Writing.{payloadHeadBytes}
 use Rattle.packer.proofs.Pieces.{AllMost, all-most, pieces-most}
 use Rattle.packer.proofs.Lengths.{head-4, head-not-4, sizes, length-payload-head, length-fields, length-unit}
 use Rattle.packer.proofs.Lengths.{length-mmtp, length-packet}

@@ -8,8 +8,8 @@ use borrow.Author.Tests.{eq-eqb, ne-eqb, lt-ltb, le-ltb}
 use lib.ListN.{length}
 use Rattle.reassembly.specs.declared.unit.Unit.{Unit}
 use Rattle.packer.specs.Pieces.{countOf}
-use Rattle.packer.specs.Packet.{headBytes}
 use Rattle.packer.specs.Packer.{run, packed, refusalOf, refusedWith, packOf}
+use Rattle.packer.specs.Writing.{headBytes}
 use Rattle.packer.proofs.Pieces.{count-pieces, covers}
 use Rattle.packer.proofs.Runs.{length-run}
 

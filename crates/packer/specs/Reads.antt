@@ -20,8 +20,9 @@ use Rattle.mmtp.specs.Packet.{readingOf}
 use Rattle.reassembly.specs.declared.unit.Unit.{Unit}
 use Rattle.reassembly.specs.declared.join.Piece.{Piece}
 use Rattle.packer.specs.Pieces.{pieces, pieceAt}
-use Rattle.packer.specs.Packet.{payloadHeadBytes, packetOf}
+use Rattle.packer.specs.Packet.{packetOf}
 use Rattle.packer.specs.Packer.{packets, joined}
+use Rattle.packer.specs.Writing.{payloadHeadBytes}
 
 -- the fields with 0 where the kind has none
 unfoldable pub ownFields : ℕ → Fields → Fields

@@ -5,7 +5,8 @@ use mathlib.Core.List.{List, _++_, append-assoc}
 use Rattle.wire.specs.Memory.{pasted}
 use native.Mathlib.Omega.{arith}
 use lib.ListN.{length}
-use Rattle.packer.specs.Packet.{outerHead, mmtpHead, payloadHead, fieldsWritten, dataUnit, mmtpOf, packetOf, headBytes}
+use Rattle.packer.specs.Packet.{outerHead, mmtpHead, payloadHead, fieldsWritten, dataUnit, mmtpOf, packetOf}
+use Rattle.packer.specs.Writing.{headBytes}
 use Rattle.packer.proofs.Lengths.{sizes, length-outer, length-mmtp-head, length-payload-head}
 use Rattle.packer.proofs.Lengths.{length-fields, length-unit, length-mmtp}
 use Rattle.packer.proofs.Written.{wrote, behind}
