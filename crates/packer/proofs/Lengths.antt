@@ -12,8 +12,9 @@ use Rattle.mmtp.specs.declared.payload.Indicator.{Indicator}
 use Rattle.mmtp.specs.declared.unit.Fields.{Fields}
 use Rattle.mmtp.specs.Unit.{fieldBytes}
 use Rattle.reassembly.specs.declared.join.Piece.{Piece}
-use Rattle.packer.specs.Packet.{outerHead, mmtpHead, mpuHead, signallingHead, payloadHead, payloadHeadBytes}
-use Rattle.packer.specs.Packet.{timedFields, fieldsWritten, dataUnit, mmtpOf, packetOf, headBytes}
+use Rattle.packer.specs.Packet.{outerHead, mmtpHead, mpuHead, signallingHead, payloadHead}
+use Rattle.packer.specs.Packet.{timedFields, fieldsWritten, dataUnit, mmtpOf, packetOf}
+use Rattle.packer.specs.Writing.{payloadHeadBytes, headBytes}
 
 pub length-outer : (len cid sn : ℕ) → length (outerHead len cid sn) ≡ 7
 unfolding outerHead bytesOf

@@ -33,13 +33,16 @@ use Rattle.mmtp.specs.Unit.{fieldBytes, noFields, timedFields as timedRead, ite
 use Rattle.reassembly.specs.declared.unit.Unit.{Unit}
 use Rattle.reassembly.specs.declared.join.Piece.{Piece}
 use Rattle.packer.specs.Packet.{outerHead, payloadType, mmtpHead, indicatorBits, fragmentBits, mpuHead, signallingHead}
-use Rattle.packer.specs.Packet.{payloadHead, payloadHeadBytes, timedFields, fieldsWritten, dataUnit, mmtpOf, packetOf}
+use Rattle.packer.specs.Packet.{payloadHead, timedFields, fieldsWritten, dataUnit, mmtpOf, packetOf}
 use Rattle.packer.specs.Pieces.{pieces, indicatorAt, counterAt, withPsn, pieceAt}
 use Rattle.packer.specs.Packer.{packetAt, packetsFrom, packets}
-use Rattle.packer.specs.Reads.{ownFields, Packable, meant, WholePacket, AllWhole, ReadAs, PacketRead, AllRead, PacketsRead}
+use Rattle.packer.specs.Reads.{ownFields, Packable, meant, WholePacket, AllWhole, AllShort, ReadAs, AllRead}
+use Rattle.packer.specs.Reads.{PacketRead, PacketsRead}
+use Rattle.packer.specs.Writing.{payloadHeadBytes}
 use Rattle.packer.proofs.Pieces.{AllMost, all-most, pieces-most}
 use Rattle.packer.proofs.Lengths.{head-4, head-not-4, sizes, length-payload-head, length-fields, length-unit}
 use Rattle.packer.proofs.Lengths.{length-mmtp, length-packet}
+use Rattle.packer.proofs.Runs.{length-packet-at}
 use Rattle.packer.proofs.Wholes.{be-behind, packet-whole}
 
 -- CID and SN share 16 bits
@@ -360,13 +363,16 @@ module _ (u : Unit) (cid sn place : ℕ) (w : Watch) (o : Packable u) (c : cid <
       )
 
   reads-from : (n i : ℕ) (ps : List (List ℕ)) → i + length ps ≡ n → AllMost 1400 ps
-      → AllWhole (packetsFrom u cid sn n i ps) × AllRead cid place w u n i ps (packetsFrom u cid sn n i ps)
+      → AllWhole (packetsFrom u cid sn n i ps) × AllShort (packetsFrom u cid sn n i ps)
+      × AllRead cid place w u n i ps (packetsFrom u cid sn n i ps)
   unfolding packetsFrom
-  reads-from n i [] e h = (tt, tt)
+  reads-from n i [] e h = (tt, tt, tt)
   reads-from n i (s ∷ ps) e h =
       let a = packet-at-read n i s (omega arith) (h .0) in
       let b = reads-from n (i + 1) ps (omega arith) (h .1) in
-      ((a .0, b .0), (a .1, b .1))
+      let z = sizes (u .kind) in
+      let k = length-packet-at u cid sn n i s in
+      ((a .0, b .0), (omega (arith, h .0), b .1), (a .1, b .2))
 
 pub packets-read : PacketsRead
 unfolding packets

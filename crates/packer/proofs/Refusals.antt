@@ -4,12 +4,16 @@ use mathlib.Core.Path.{_≡_}
 use mathlib.Core.List.{List}
 use native.Mathlib.Nat.{mul-le-mul}
 use native.Mathlib.Omega.{arith}
-use borrow.Author.Tests.{eq-eqb, ne-eqb, lt-ltb, le-ltb}
-use lib.ListN.{length}
+use borrow.Author.Tests.{eq-eqb, ne-eqb, lt-ltb, le-ltb, eqb-false, ltb-false}
+use lib.ListN.{length, take}
+use lib.Dec.{eqb, ltb}
+use lib.Seq.{take-length, take-append-seam}
+use Rattle.wire.specs.Memory.{pasted}
+use Rattle.mmtp.specs.Cases.{chose-not}
 use Rattle.reassembly.specs.declared.unit.Unit.{Unit}
-use Rattle.packer.specs.Pieces.{countOf}
-use Rattle.packer.specs.Packet.{headBytes}
+use Rattle.packer.specs.Pieces.{countOf, maxPieces}
 use Rattle.packer.specs.Packer.{run, packed, refusalOf, refusedWith, packOf}
+use Rattle.packer.specs.Writing.{headBytes}
 use Rattle.packer.proofs.Pieces.{count-pieces, covers}
 use Rattle.packer.proofs.Runs.{length-run}
 
@@ -82,3 +86,35 @@ module _ (u : Unit) (cid sn m : ℕ) (s out : List ℕ) where
                   le-ltb _ _ l,
                   le-ltb _ _ h,
                 )
+
+-- what a call that is not refused tells
+pub record Accepted (m kind n len room cid : ℕ) : Type 0 where
+  pub positive : 0 < m
+  pub short : m ≤ 1400
+  pub kinds : kind ≤ 4
+  pub few : n ≤ maxPieces
+  pub fits : len ≤ room
+  pub cids : cid ≤ 4095
+
+pub not-refused : (m kind n len room cid : ℕ) → refusalOf m kind n len room cid ≡ 0 → Accepted m kind n len room cid
+unfolding refusalOf
+not-refused m kind n len room cid e =
+    let a = chose-not (eqb m 0) 70 _ 0 e (λ q. omega arith) in
+    let b = chose-not (ltb 1400 m) 70 _ 0 (a .1) (λ q. omega arith) in
+    let c = chose-not (ltb 4 kind) 71 _ 0 (b .1) (λ q. omega arith) in
+    let d = chose-not (ltb maxPieces n) 72 _ 0 (c .1) (λ q. omega arith) in
+    let f = chose-not (ltb room len) 73 _ 0 (d .1) (λ q. omega arith) in
+    let g = chose-not (ltb 4095 cid) 74 _ 0 (f .1) (λ q. omega arith) in
+    record {
+      positive = omega (arith, eqb-false m 0 (a .0));
+      short = ltb-false _ _ (b .0);
+      kinds = ltb-false _ _ (c .0);
+      few = ltb-false _ _ (d .0);
+      fits = ltb-false _ _ (f .0);
+      cids = ltb-false _ _ (g .0);
+    }
+
+-- the run stands in the output from byte 0 on
+pub run-written : (r out : List ℕ) → take (length r) (packed r out) ≡ r
+unfolding packed pasted
+run-written r out = rw take-length (take-append-seam r _)

@@ -316,3 +316,10 @@ unit-rejoined A limit place m u s f xs h r y e =
     let j = joined-pieces m s in
     let z = rejoins limit place (length ps) u ps tags f (with-zero u h) (g .0) (g .1) l refl (pieces-some m s) (rw j r) in
     rw (t, j) at z
+
+-- the psn that a unit after this one begins with
+pub next-after : (u : Unit) (n : ℕ) → 0 < n → nextPsn (withPsn u (n - 1) .psn) ≡ withPsn u n .psn
+unfolding nextPsn withPsn
+next-after u n h =
+    let e : ((u .psn .0 + (n - 1)) % 2 ^ 32 + 1) % 2 ^ 32 ≡ (u .psn .0 + n) % 2 ^ 32 = omega arith in
+    rw e

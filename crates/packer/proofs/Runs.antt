@@ -9,9 +9,9 @@ use lib.ListN.{length, take, drop, length-append}
 use lib.Seq.{drop-cons, drop-length}
 use Rattle.reassembly.specs.declared.unit.Unit.{Unit}
 use Rattle.packer.specs.Pieces.{pieces, pieceAt, withPsn}
-use Rattle.packer.specs.Packet.{headBytes}
 use Rattle.packer.specs.declared.pack.Plan.{Plan}
-use Rattle.packer.specs.Packer.{packetAt, packetsFrom, packets, joined, run, Planned, planned}
+use Rattle.packer.specs.Packer.{packetAt, packetsFrom, packets, joined, run}
+use Rattle.packer.specs.Writing.{headBytes, Planned, planned}
 use Rattle.packer.proofs.Lengths.{length-packet}
 use Rattle.packer.proofs.Pieces.{count-pieces, piece-is, joined-pieces}
 

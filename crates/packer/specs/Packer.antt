@@ -1,16 +1,14 @@
 -- The packer: a unit's packets one behind the other, or one of its refusals.
-use Prim.Native.Nat.{ℕ, _+_, _*_, _%_, _≤_, _<_}
-use mathlib.Core.Path.{_≡_}
+use Prim.Native.Nat.{ℕ, _+_, _%_}
 use mathlib.Core.Bool.{cond}
 use mathlib.Core.List.{List, [], _∷_, _++_}
-use lib.ListN.{length, take, drop}
+use lib.ListN.{length}
 use lib.Dec.{eqb, ltb}
 use Rattle.wire.specs.Memory.{pasted}
 use Rattle.reassembly.specs.declared.unit.Unit.{Unit}
 use Rattle.packer.specs.declared.pack.Packed.{Packed}
-use Rattle.packer.specs.declared.pack.Plan.{Plan}
-use Rattle.packer.specs.Pieces.{pieces, countOf, pieceAt}
-use Rattle.packer.specs.Packet.{packetOf, headBytes}
+use Rattle.packer.specs.Pieces.{pieces, maxPieces, pieceAt}
+use Rattle.packer.specs.Packet.{packetOf}
 
 -- packet `i` of `n`; "SN (modulo 16) rising by one from the caller's"
 unfoldable pub packetAt : Unit → ℕ → ℕ → ℕ → ℕ → List ℕ → List ℕ
@@ -37,7 +35,7 @@ run u cid sn m s = joined (packets u cid sn m s)
 unfoldable pub refusalOf : ℕ → ℕ → ℕ → ℕ → ℕ → ℕ → ℕ
 refusalOf m kind n len room cid =
     cond (eqb m 0) 70
-    (cond (ltb 1400 m) 70 (cond (ltb 4 kind) 71 (cond (ltb 256 n) 72 (cond (ltb room len) 73 (cond (ltb 4095 cid) 74 0)))))
+    (cond (ltb 1400 m) 70 (cond (ltb 4 kind) 71 (cond (ltb maxPieces n) 72 (cond (ltb room len) 73 (cond (ltb 4095 cid) 74 0)))))
 
 -- a run written "from output byte 0 on"
 unfoldable pub packed : List ℕ → List ℕ → List ℕ
@@ -53,25 +51,3 @@ packOf u cid sn m s out =
     let r = run u cid sn m s in
     let refusal = refusalOf m (u .kind) (length (pieces m s)) (length r) (length out) cid in
     cond (eqb refusal 0) (record { refusal = 0; len = length r }, packed r out) (refusedWith refusal, out)
-
--- what the writing of a plan asks for: `len` bytes to be packed, an output of `room`
-pub record Planned (p : Plan) (len room : ℕ) : Type 0 where
-  pub positive : 0 < p .m
-  pub small : p .m ≤ 1400
-  pub kinds : p .unit .kind ≤ 4
-  pub cids : p .cid < 4096
-  pub counted : p .n ≡ countOf (p .m) len
-  pub few : p .n ≤ 256
-  pub fits : p .n * headBytes (p .unit .kind) + len ≤ room
-
-abbrev pub plannedRun : Plan → List ℕ → List ℕ
-plannedRun p s = run (p .unit) (p .cid) (p .sn) (p .m) s
-
--- the packet of piece `i` of a plan
-abbrev pub planned : Plan → ℕ → List ℕ → List ℕ
-planned p i s = packetAt (p .unit) (p .cid) (p .sn) (p .n) i (take (p .m) (drop (i * p .m) s))
-
--- a packet `t` written at `at`: the output, and where the packet ends
-pub record Writes (t : List ℕ) (at end : ℕ) (before after : List ℕ) : Type 0 where
-  pub ends : end ≡ at + length t
-  pub writes : after ≡ pasted before at t (length t)

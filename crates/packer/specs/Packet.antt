@@ -1,5 +1,5 @@
 -- The bytes of one TLV packet of type 3, header type 0x61: its headers, the unit's fields, and a piece's bytes.
-use Prim.Native.Nat.{ℕ, _+_, _*_, _≤_, _<_}
+use Prim.Native.Nat.{ℕ, _+_, _*_}
 use mathlib.Core.Bool.{cond}
 use mathlib.Core.List.{List, [], _∷_, _++_}
 use lib.ListN.{length}
@@ -8,7 +8,6 @@ use Rattle.wire.specs.Field.{bytesOf}
 use Rattle.mmtp.specs.declared.payload.Indicator.{Indicator}
 use Rattle.mmtp.specs.declared.payload.Indicator.the-variants.{Whole, First, Middle, Last}
 use Rattle.mmtp.specs.declared.unit.Fields.{Fields}
-use Rattle.mmtp.specs.Unit.{fieldBytes}
 use Rattle.reassembly.specs.declared.join.Piece.{Piece}
 
 -- "0x7F, type 3", the length of what follows; CID 12 bits, SN 4, "header type 0x61"
@@ -48,9 +47,6 @@ payloadHead p len =
     cond (eqb (p .unit .kind) 4) (signallingHead (p .indicator) (p .counter))
     (mpuHead (6 + len) (p .unit .kind) (p .indicator) (p .counter) (p .unit .mpu))
 
-unfoldable pub payloadHeadBytes : ℕ → ℕ
-payloadHeadBytes kind = cond (eqb kind 4) 2 8
-
 -- movie fragment number 32, sample 32, offset 32, priority 8, dependency 8
 unfoldable pub timedFields : Fields → List ℕ
 timedFields f =
@@ -70,15 +66,3 @@ mmtpOf p s =
 -- the packet of the piece `p` with the bytes `s`
 unfoldable pub packetOf : ℕ → ℕ → Piece → List ℕ → List ℕ
 packetOf cid sn p s = outerHead (3 + length (mmtpOf p s)) cid sn ++ mmtpOf p s
-
--- the bytes of a packet before the piece's own
-unfoldable pub headBytes : ℕ → ℕ
-headBytes kind = 19 + payloadHeadBytes kind + fieldBytes kind
-
--- what the writing of the packet of a piece of `n` bytes asks for
-pub record Writable (room at cid sn : ℕ) (p : Piece) (n : ℕ) : Type 0 where
-  pub fits : at + (headBytes (p .unit .kind) + n) ≤ room
-  pub kinds : p .unit .kind ≤ 4
-  pub cids : cid < 4096
-  pub sns : sn < 16
-  pub small : n ≤ 1400

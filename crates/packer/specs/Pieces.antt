@@ -25,6 +25,10 @@ countBy (suc n) m len = cond (leb len m) 1 (suc (countBy n m (len - m)))
 unfoldable pub countOf : ℕ → ℕ → ℕ
 countOf m len = countBy len m len
 
+-- the most pieces of a unit
+abbrev pub maxPieces : ℕ
+maxPieces = 256
+
 -- "up to m bytes as FI 00", otherwise first, middle, last
 unfoldable pub indicatorAt : ℕ → ℕ → Indicator
 indicatorAt n i = cond (eqb n 1) Whole (cond (eqb i 0) First (cond (eqb (i + 1) n) Last Middle))

@@ -5,7 +5,7 @@ use mathlib.Core.Bool.{true, false, cond}
 use mathlib.Core.List.{List, [], _∷_}
 use lib.ListN.{length, drop}
 use lib.Dec.{eqb}
-use Rattle.tlv.specs.Packet.{total, marked, complete, cut}
+use Rattle.tlv.specs.Packet.{total, marked, complete, cut, maxPacket}
 use Rattle.mmtp.specs.declared.flow.Flow.the-variants.{Mmtp}
 use Rattle.mmtp.specs.declared.unit.Fields.{Fields}
 use Rattle.mmtp.specs.declared.packet.Packet.{Packet}
@@ -20,8 +20,9 @@ use Rattle.mmtp.specs.Packet.{readingOf}
 use Rattle.reassembly.specs.declared.unit.Unit.{Unit}
 use Rattle.reassembly.specs.declared.join.Piece.{Piece}
 use Rattle.packer.specs.Pieces.{pieces, pieceAt}
-use Rattle.packer.specs.Packet.{payloadHeadBytes, packetOf}
+use Rattle.packer.specs.Packet.{packetOf}
 use Rattle.packer.specs.Packer.{packets, joined}
+use Rattle.packer.specs.Writing.{payloadHeadBytes}
 
 -- the fields with 0 where the kind has none
 unfoldable pub ownFields : ℕ → Fields → Fields
@@ -59,6 +60,11 @@ WholePacket b = (marked b ≡ true) × (complete b ≡ true) × (total b ≡ len
 abbrev pub AllWhole : List (List ℕ) → Type 0
 AllWhole [] = Prim.Unit {0}
 AllWhole (b ∷ bs) = WholePacket b × AllWhole bs
+
+-- packets that a receiver keeps
+abbrev pub AllShort : List (List ℕ) → Type 0
+AllShort [] = Prim.Unit {0}
+AllShort (b ∷ bs) = (length b ≤ maxPacket) × AllShort bs
 
 abbrev pub PacketWhole : Type 0
 PacketWhole = (cid sn : ℕ) (p : Piece) (s : List ℕ) → length s ≤ 1400 → WholePacket (packetOf cid sn p s)
@@ -109,4 +115,5 @@ abbrev pub PacketsRead : Type 0
 PacketsRead =
     (u : Unit) (cid sn m place : ℕ) (w : Watch) (s : List ℕ) → Packable u → cid < 4096 → 0 < m → m ≤ 1400
     → lookupOf w (u .«packet_id») ≡ At place
-    → AllWhole (packets u cid sn m s) × AllRead cid place w u (length (pieces m s)) 0 (pieces m s) (packets u cid sn m s)
+    → AllWhole (packets u cid sn m s) × AllShort (packets u cid sn m s)
+    × AllRead cid place w u (length (pieces m s)) 0 (pieces m s) (packets u cid sn m s)

@@ -2,7 +2,9 @@
 ghost use mathlib.Core.Path.{_≡_};
 ghost use Prim.Native.Nat.{_+_, _*_, _≤_, _<_, _%_};
 ghost use lib.ListN.{length};
-ghost use Rattle.packer.specs.Packer.{Planned, planned, plannedRun, Writes, packed, refusedWith, packOf};
+ghost use Rattle.packer.specs.Pieces.{maxPieces};
+ghost use Rattle.packer.specs.Packer.{packed, refusedWith, packOf};
+ghost use Rattle.packer.specs.Writing.{Planned, planned, plannedRun, Writes};
 use crate::packet;
 use crate::piece;
 use reassembly::unit::Unit;
@@ -25,7 +27,7 @@ struct Plan {
 
 // The SN of packet `i`.
 fn sn_at(sn: u8, i: usize) -> u8
-    requires { ⌜ i < 256 ⌝ }
+    requires { ⌜ i < maxPieces ⌝ }
     ensures { λ r. ⌜ (r ≡ (sn + i) % 16) × (r < 16) ⌝ }
 {
     ((sn as usize + i) % 16) as u8
@@ -80,7 +82,7 @@ pub fn pack(unit: Unit, cid: u16, sn: u8, m: usize, bytes: &[u8], output: &mut [
         return refused(71);
     }
     let n = piece::count(bytes.len(), m);
-    if 256 < n {
+    if piece::MAX_PIECES < n {
         return refused(72);
     }
     let len = n * packet::head_bytes(kind) + bytes.len();

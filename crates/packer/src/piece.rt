@@ -2,11 +2,14 @@
 ghost use mathlib.Core.Path.{_≡_};
 ghost use Prim.Native.Nat.{_+_, _≤_, _<_};
 ghost use lib.ListN.{length, take, drop};
-ghost use Rattle.packer.specs.Pieces.{countOf, indicatorAt, counterAt, pieceAt};
+ghost use Rattle.packer.specs.Pieces.{countOf, maxPieces, indicatorAt, counterAt, pieceAt};
 use mmtp::header::Psn;
 use mmtp::payload::Indicator;
 use reassembly::join::Piece;
 use reassembly::unit::Unit;
+
+// The most pieces of a unit.
+pub const MAX_PIECES: usize = 256;
 
 // How many pieces of at most `m` bytes a unit of `len` bytes has.
 pub fn count(len: usize, m: usize) -> usize
@@ -49,7 +52,7 @@ fn indicator_at(n: usize, i: usize) -> Indicator
 
 // The counter of piece `i` of `n`.
 fn counter_at(n: usize, i: usize) -> u8
-    requires { ⌜ (i < n) × (n ≤ 256) ⌝ }
+    requires { ⌜ (i < n) × (n ≤ maxPieces) ⌝ }
     ensures { λ r. ⌜ r ≡ counterAt n i ⌝ }
 {
     (n - 1 - i) as u8
@@ -57,7 +60,7 @@ fn counter_at(n: usize, i: usize) -> u8
 
 // Piece `i` of `n`, of `len` bytes: the unit with the packet's own psn, FI and counter.
 pub fn number(unit: Unit, n: usize, i: usize, len: usize) -> Piece
-    requires { ⌜ (i < n) × (n ≤ 256) ⌝ }
+    requires { ⌜ (i < n) × (n ≤ maxPieces) ⌝ }
     ensures { λ r. ⌜ r ≡ pieceAt unit n i len ⌝ }
 {
     let first = unit.psn;

@@ -1,5 +1,5 @@
 -- Why write_piece meets its contract: the piece's packet, and where it ends.
-use Prim.Native.Nat.{_*_, _<_}
+use Prim.Native.Nat.{_*_, _≤_, _<_}
 use mathlib.Core.Path.{ap}
 use native.Mathlib.Omega.{arith}
 use lib.ListN.{length, take, drop, length-take}
@@ -12,19 +12,21 @@ use borrow.Author.Needs.{needs}
 use Rattle.packer.proofs.pack.write_piece.Statement.{statement}
 use Rattle.packer.proofs.pack.write_piece.Tie as tie
 
-mul-cut : tie.Need-mul-cut
-mul-cut c =
-    let g = c .before .before .before in
-    let a = g .args in
-    let h : a .i < countOf (a .plan .m) (length (a .bytes .now)) = omega (arith, g .pre .0 .counted, g .pre .1 .0) in
-    omega (arith, begins (a .plan .m) (length (a .bytes .now)) (a .i) h)
-
-cut-requires : tie.Need-cut-requires
-cut-requires c κs =
+-- the piece begins in the unit
+begins-in : (c : tie.After-unit)
+    → let a = c .before .before .before .args in
+    a .i * a .plan .m ≤ length (a .bytes .now)
+begins-in c =
     let g = c .before .before .before in
     let a = g .args in
     let h : a .i < countOf (a .plan .m) (length (a .bytes .now)) = omega (arith, g .pre .0 .counted, g .pre .1 .0) in
     begins (a .plan .m) (length (a .bytes .now)) (a .i) h
+
+mul-cut : tie.Need-mul-cut
+mul-cut c = omega (arith, begins-in c)
+
+cut-requires : tie.Need-cut-requires
+cut-requires c κs = begins-in c
 
 number-requires : tie.Need-number-requires
 number-requires c κs = search needs

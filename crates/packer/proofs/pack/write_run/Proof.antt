@@ -5,7 +5,8 @@ use mathlib.Core.List.{[]}
 use native.Mathlib.Omega.{arith}
 use lib.ListN.{length}
 use Rattle.wire.specs.Memory.{pasted, pasted-zero}
-use Rattle.packer.specs.Packer.{packed, planned}
+use Rattle.packer.specs.Packer.{packed}
+use Rattle.packer.specs.Writing.{planned}
 use Rattle.packer.proofs.Written.{turn}
 use Rattle.packer.proofs.Runs.{left, left-fits, left-none, left-step, left-length, rest-all}
 use borrow.Author.Needs.{needs}

@@ -1,10 +1,10 @@
 -- Why head_bytes meets its contract: the sum of the parts.
 use native.Mathlib.Omega.{arith}
-use Rattle.packer.specs.Packet.{headBytes}
 use Rattle.packer.proofs.Lengths.{field-bytes-most}
 use borrow.Author.Needs.{needs}
 use Rattle.packer.proofs.packet.head_bytes.Statement.{statement}
 use Rattle.packer.proofs.packet.head_bytes.Tie as tie
+use Rattle.packer.specs.Writing.{headBytes}
 
 payload-head-bytes-requires : tie.Need-payload-head-bytes-requires
 payload-head-bytes-requires c κs = search needs

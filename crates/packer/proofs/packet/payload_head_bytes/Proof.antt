@@ -2,9 +2,9 @@
 use mathlib.Core.Path.{refl}
 use native.Mathlib.Omega.{arith}
 use borrow.Author.Tests.{eq-eqb, ne-eqb}
-use Rattle.packer.specs.Packet.{payloadHeadBytes}
 use Rattle.packer.proofs.packet.payload_head_bytes.Statement.{statement}
 use Rattle.packer.proofs.packet.payload_head_bytes.Tie as tie
+use Rattle.packer.specs.Writing.{payloadHeadBytes}
 
 returns : tie.Need-returns
 unfolding payloadHeadBytes

@@ -1,7 +1,8 @@
 -- Why write_payload_head meets its contract: signalling, or not.
 use native.Mathlib.Omega.{arith}
 use borrow.Author.Tests.{eq-eqb, ne-eqb}
-use Rattle.packer.specs.Packet.{payloadHead, payloadHeadBytes}
+use Rattle.packer.specs.Packet.{payloadHead}
+use Rattle.packer.specs.Writing.{payloadHeadBytes}
 use Rattle.packer.proofs.Lengths.{head-4, head-not-4}
 use borrow.Author.Needs.{needs}
 use Rattle.packer.proofs.packet.write_payload_head.Statement.{statement}
