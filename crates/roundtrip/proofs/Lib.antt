@@ -1,0 +1,5 @@
+-- The proof of the round trip.
+pub mod Runs
+pub mod Inputs
+pub mod Units
+pub mod RoundTrip
