@@ -3,3 +3,4 @@ pub mod Runs
 pub mod Inputs
 pub mod Units
 pub mod RoundTrip
+pub mod Example

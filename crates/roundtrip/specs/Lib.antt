@@ -1,3 +1,4 @@
 -- The round trip of units through the packer, the slot cutter and a fresh receiver.
 pub mod Sending
 pub mod RoundTrip
+pub mod Example

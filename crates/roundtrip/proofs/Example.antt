@@ -1,0 +1,130 @@
+-- That the run meets the conditions, computed.
+use Prim.Native.Nat.{ℕ, zero, suc}
+use mathlib.Core.Path.{_≡_, refl}
+use mathlib.Core.Bool.{Bool, true, false, _&&_}
+use mathlib.Core.List.{List, [], _∷_, _++_}
+use lib.ListN.{length, replicate}
+use lib.Dec.{eqb, ltb, leb}
+use borrow.Author.Tests.{leb-true, ltb-true, eqb-true, eqb-false}
+use Rattle.wire.specs.Field.{be, bytesOf}
+use Rattle.tmcc.specs.Count.{allBelow}
+use Rattle.tmcc.specs.Mode.{dataBytes}
+use Rattle.tlv.specs.Packet.{goodFirst, total, complete, marked}
+use Rattle.mmtp.specs.declared.watch.Found.the-variants.{At}
+use Rattle.mmtp.specs.Watch.{lookupOf, firstFrom}
+use Rattle.reassembly.specs.declared.unit.Unit.{Unit}
+use Rattle.receiver.specs.Start.{before, twiceBelow, twice, refusalOf as startRefusal, startOf}
+use Rattle.packer.specs.Pieces.{piecesBy, pieces, indicatorAt, counterAt, withPsn, pieceAt}
+use Rattle.packer.specs.Packet.{
+  outerHead,
+  payloadType,
+  mmtpHead,
+  indicatorBits,
+  fragmentBits,
+  mpuHead,
+  signallingHead,
+  payloadHead,
+  timedFields,
+  fieldsWritten,
+  dataUnit,
+  mmtpOf,
+  packetOf,
+}
+use Rattle.packer.specs.Packer.{packetAt, packetsFrom, packets, joined, run, refusalOf, packed, packOf}
+use Rattle.packer.specs.Reads.{ownFields, Packable}
+use Rattle.cutter.specs.Slot.{unlisted}
+use Rattle.roundtrip.specs.Sending.{Parcel, Sendable, AllSendable, Consecutive, Null, AllGaps, allPackets, padded}
+use Rattle.roundtrip.specs.RoundTrip.{runOf}
+use Rattle.roundtrip.specs.Example.{config, inPieces, timed, nothing, item, units, null, gaps, Meets}
+
+no-gaps : (n : ℕ) (gs : List (List (List ℕ))) → AllGaps gs → AllGaps (replicate n [] ++ gs)
+no-gaps zero gs h = h
+no-gaps (suc n) gs h = (tt, no-gaps n gs h)
+
+-- by its length field
+null-so : (a b : ℕ) → marked (null a b) ≡ true → complete (null a b) ≡ true → eqb (total (null a b)) (length (null a b)) ≡ true
+    → leb (length (null a b)) 16384 ≡ true → Null (null a b)
+null-so a b m c e l = record { type = refl; whole = (m, c, eqb-true _ _ e); short = leb-true _ _ l }
+
+nulls : Null (null 0 0) × Null (null 0x3F 0xFC) × Null (null 1 30)
+unfolding be goodFirst total complete marked
+nulls = (null-so 0 0 refl refl refl refl, null-so 0x3F 0xFC refl refl refl refl, null-so 1 30 refl refl refl refl)
+
+-- the numbers of a unit fit their fields
+abbrev inRange : Unit → Bool
+inRange u =
+    leb (u .kind) 4
+    && (ltb (u .«packet_id») 65536
+    && (ltb (u .psn .0) 4294967296
+    && (ltb (u .mpu) 4294967296
+    && (ltb (u .fields .«movie_fragment») 4294967296
+    && (ltb (u .fields .sample) 4294967296
+    && (ltb (u .fields .offset) 4294967296 && ltb (u .fields .item) 4294967296))))))
+
+and-both : (a b : Bool) → a && b ≡ true → (a ≡ true) × (b ≡ true)
+and-both true b e = (refl, e)
+and-both false b e = (cc, cc)
+
+packable : (u : Unit) → inRange u ≡ true → ownFields (u .kind) (u .fields) ≡ u .fields → (u .kind ≡ 4 → u .mpu ≡ 0) → Packable u
+packable u r f m =
+    let a = and-both _ _ r in
+    let b = and-both _ _ (a .1) in
+    let c = and-both _ _ (b .1) in
+    let d = and-both _ _ (c .1) in
+    let g = and-both _ _ (d .1) in
+    let h = and-both _ _ (g .1) in
+    let i = and-both _ _ (h .1) in
+    record {
+      kinds = leb-true _ _ (a .0);
+      ids = ltb-true _ _ (b .0);
+      psns = ltb-true _ _ (c .0);
+      mpus = ltb-true _ _ (d .0);
+      movie-fragments = ltb-true _ _ (g .0);
+      samples = ltb-true _ _ (h .0);
+      offsets = ltb-true _ _ (i .0);
+      items = ltb-true _ _ (i .1);
+      own-fields = f;
+      own-mpu = m;
+    }
+
+sendable : (u : Parcel) (k : ℕ) → packOf (u .unit) 2 (u .sn) (u .m) (u .bytes) (u .output) .0 .refusal ≡ 0 → inRange (u .unit) ≡ true
+    → ownFields (u .unit .kind) (u .unit .fields) ≡ u .unit .fields → (u .unit .kind ≡ 4 → u .unit .mpu ≡ 0)
+    → lookupOf (config .watch) (u .unit .«packet_id») ≡ At k → leb (length (u .bytes)) 256 ≡ true → Sendable config u
+sendable u k p r f m w l =
+    record { packs = p; packable = packable (u .unit) r f m; place = k; watched = w; joins = λ h. leb-true _ _ l }
+
+not-signalling : {A : Type 0} (k : ℕ) → eqb k 4 ≡ false → k ≡ 4 → A
+not-signalling k e q = absurd (eqb-false _ _ e q)
+
+all-sendable : AllSendable config units
+unfolding be bytesOf lookupOf firstFrom ownFields piecesBy pieces indicatorAt counterAt withPsn pieceAt outerHead payloadType mmtpHead
+    indicatorBits fragmentBits mpuHead signallingHead payloadHead timedFields fieldsWritten dataUnit mmtpOf packetOf packetAt packetsFrom
+    packets joined run refusalOf packed packOf
+all-sendable = (
+  sendable inPieces 0 refl refl refl (λ e. refl) refl refl,
+  (
+    sendable timed 1 refl refl refl (not-signalling 2 refl) refl refl,
+    (
+      sendable nothing 0 refl refl refl (λ e. refl) refl refl,
+      (sendable item 2 refl refl refl (not-signalling 3 refl) refl refl, tt),
+    ),
+  ),
+)
+
+follow : Consecutive [] units
+unfolding piecesBy pieces withPsn
+follow = (tt, (tt, (refl, (tt, tt))))
+
+pub example : Meets
+unfolding be bytesOf before twiceBelow twice startRefusal startOf lookupOf firstFrom allBelow dataBytes unlisted piecesBy pieces indicatorAt
+    counterAt withPsn pieceAt outerHead payloadType mmtpHead indicatorBits fragmentBits mpuHead signallingHead payloadHead timedFields
+    fieldsWritten dataUnit mmtpOf packetOf packetAt packetsFrom packets joined allPackets padded
+example =
+    record {
+      starts = refl;
+      sendable = all-sendable;
+      consecutive = follow;
+      padding = ((nulls .0, tt), ((nulls .1, tt), no-gaps 258 ((null 1 30 ∷ []) ∷ []) ((nulls .2, tt), tt)));
+      listed = refl;
+      multiple = refl;
+    }

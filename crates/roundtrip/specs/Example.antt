@@ -1,0 +1,64 @@
+-- A run that meets the round trip's conditions: three packet_ids, a unit of 256 pieces and exactly R bytes whose psn wraps, an
+-- empty one, one in two pieces, null packets of 4 and of 16,384 bytes, and one that fills the last slot.
+use Prim.Native.Nat.{ℕ, _+_, _*_}
+use mathlib.Core.Path.{_≡_}
+use mathlib.Core.Bool.{false}
+use mathlib.Core.List.{List, [], _∷_, _++_}
+use lib.ListN.{length, replicate}
+use Rattle.mmtp.specs.declared.unit.Fields.{Fields}
+use Rattle.mmtp.specs.Unit.{noFields}
+use Rattle.reassembly.specs.declared.config.Config.{Config}
+use Rattle.receiver.specs.Start.{startOf}
+use Rattle.cutter.specs.Slot.{unlisted}
+use Rattle.roundtrip.specs.Sending.{Parcel, AllSendable, Consecutive, AllGaps}
+use Rattle.roundtrip.specs.RoundTrip.{runOf}
+
+-- R is 256
+abbrev pub config : Config
+config = record { stream = 1; cid = 2; watch = record { ids = 17 ∷ 18 ∷ 19 ∷ replicate 13 0; n = 3 }; limit = 256 }
+
+abbrev parcel : ℕ → ℕ → ℕ → ℕ → Fields → ℕ → List ℕ → Parcel
+parcel id kind psn mpu fields m bytes =
+    record {
+      unit = record { «packet_id» = id; kind = kind; psn = record { 0 = psn }; mpu = mpu; fields = fields };
+      bytes = bytes;
+      sn = 15;
+      m = m;
+      output = replicate 6000 0;
+    }
+
+abbrev pub inPieces : Parcel
+inPieces = parcel 17 4 4294967200 0 noFields 1 (replicate 256 7)
+
+abbrev pub timed : Parcel
+timed =
+    parcel 18 2 9 5 (record { «movie_fragment» = 1; sample = 2; offset = 3; priority = 4; dependency = 5; item = 0 }) 1400
+    (1 ∷ 2 ∷ 3 ∷ [])
+
+abbrev pub nothing : Parcel
+nothing = parcel 17 4 160 0 noFields 1 []
+
+abbrev pub item : Parcel
+item =
+    parcel 19 3 0 6 (record { «movie_fragment» = 0; sample = 0; offset = 0; priority = 0; dependency = 0; item = 8 }) 2
+    (1 ∷ 2 ∷ 3 ∷ [])
+
+abbrev pub units : List Parcel
+units = inPieces ∷ timed ∷ nothing ∷ item ∷ []
+
+-- a null packet whose length field has these two bytes
+abbrev pub null : ℕ → ℕ → List ℕ
+null a b = 0x7F ∷ 0xFF ∷ a ∷ b ∷ replicate (a * 256 + b) 0xA5
+
+-- before the first of 260 packets, before the second, which is in the middle of the first unit, and behind the last
+abbrev pub gaps : List (List (List ℕ))
+gaps = (null 0 0 ∷ []) ∷ (null 0x3F 0xFC ∷ []) ∷ replicate 258 [] ++ ((null 1 30 ∷ []) ∷ [])
+
+-- it fills 12 slots of 1,870 bytes
+pub record Meets : Type 0 where
+  pub starts : startOf config .refusal ≡ 0
+  pub sendable : AllSendable config units
+  pub consecutive : Consecutive [] units
+  pub padding : AllGaps gaps
+  pub listed : unlisted 1870 ≡ false
+  pub multiple : length (runOf config units gaps) ≡ 12 * 1870
