@@ -1,7 +1,8 @@
 -- That the run meets the conditions, computed.
-use Prim.Native.Nat.{ℕ, zero, suc}
+use Prim.Native.Nat.{ℕ, zero, suc, _<_, _≤_}
 use mathlib.Core.Path.{_≡_, refl}
 use mathlib.Core.Bool.{Bool, true, false, _&&_}
+use native.Mathlib.Omega.{arith}
 use mathlib.Core.List.{List, [], _∷_, _++_}
 use lib.ListN.{length, replicate}
 use lib.Dec.{eqb, ltb, leb}
@@ -30,25 +31,40 @@ use Rattle.packer.specs.Packet.{
   mmtpOf,
   packetOf,
 }
-use Rattle.packer.specs.Packer.{packetAt, packetsFrom, packets, joined, run, refusalOf, packed, packOf}
+use Rattle.packer.specs.Packer.{packetAt, packetsFrom, packets, joined}
 use Rattle.packer.specs.Reads.{ownFields, Packable}
 use Rattle.cutter.specs.Slot.{unlisted}
-use Rattle.roundtrip.specs.Sending.{Parcel, Sendable, AllSendable, Consecutive, Null, AllGaps, allPackets, padded}
-use Rattle.roundtrip.specs.RoundTrip.{runOf}
-use Rattle.roundtrip.specs.Example.{config, inPieces, timed, nothing, item, units, null, gaps, Meets}
+use Rattle.roundtrip.specs.Sending.{
+  Parcel,
+  pieceCount,
+  Sendable,
+  AllSendable,
+  Consecutive,
+  Null,
+  AllGaps,
+  allPackets,
+  padded,
+}
+use Rattle.roundtrip.specs.Example.{config, inPieces, timed, nothing, item, aboveLimit, metadata, units, null, gaps, Meets}
 
 no-gaps : (n : ℕ) (gs : List (List (List ℕ))) → AllGaps gs → AllGaps (replicate n [] ++ gs)
 no-gaps zero gs h = h
 no-gaps (suc n) gs h = (tt, no-gaps n gs h)
 
--- by its length field
-null-so : (a b : ℕ) → marked (null a b) ≡ true → complete (null a b) ≡ true → eqb (total (null a b)) (length (null a b)) ≡ true
-    → leb (length (null a b)) 16384 ≡ true → Null (null a b)
-null-so a b m c e l = record { type = refl; whole = (m, c, eqb-true _ _ e); short = leb-true _ _ l }
+-- by its first byte and its length field
+null-so : (x a b : ℕ) → marked (null x a b) ≡ true → complete (null x a b) ≡ true
+    → eqb (total (null x a b)) (length (null x a b)) ≡ true → leb (length (null x a b)) 16384 ≡ true → Null (null x a b)
+null-so x a b m c e l = record { type = refl; whole = (m, c, eqb-true _ _ e); short = leb-true _ _ l }
 
-nulls : Null (null 0 0) × Null (null 0x3F 0xFC) × Null (null 1 30)
+padding : AllGaps gaps
 unfolding be goodFirst total complete marked
-nulls = (null-so 0 0 refl refl refl refl, null-so 0x3F 0xFC refl refl refl refl, null-so 1 30 refl refl refl refl)
+padding = (
+  (null-so 0x40 0 0 refl refl refl refl, tt),
+  (
+    (null-so 0x7F 0x3F 0xFC refl refl refl refl, (null-so 0x7F 0 0 refl refl refl refl, tt)),
+    no-gaps 260 ((null 0x5A 7 3 ∷ []) ∷ []) ((null-so 0x5A 7 3 refl refl refl refl, tt), tt),
+  ),
+)
 
 -- the numbers of a unit fit their fields
 abbrev inRange : Unit → Bool
@@ -87,33 +103,50 @@ packable u r f m =
       own-mpu = m;
     }
 
-sendable : (u : Parcel) (k : ℕ) → packOf (u .unit) 2 (u .sn) (u .m) (u .bytes) (u .output) .0 .refusal ≡ 0 → inRange (u .unit) ≡ true
-    → ownFields (u .unit .kind) (u .unit .fields) ≡ u .unit .fields → (u .unit .kind ≡ 4 → u .unit .mpu ≡ 0)
-    → lookupOf (config .watch) (u .unit .«packet_id») ≡ At k → leb (length (u .bytes)) 256 ≡ true → Sendable config u
-sendable u k p r f m w l =
-    record { packs = p; packable = packable (u .unit) r f m; place = k; watched = w; joins = λ h. leb-true _ _ l }
+sendable : (x : Parcel) (k : ℕ) → ltb 0 (x .m) && leb (x .m) 1400 ≡ true → leb (pieceCount x) 256 ≡ true → inRange (x .unit) ≡ true
+    → ownFields (x .unit .kind) (x .unit .fields) ≡ x .unit .fields → (x .unit .kind ≡ 4 → x .unit .mpu ≡ 0)
+    → lookupOf (config .watch) (x .unit .«packet_id») ≡ At k → (1 < pieceCount x → length (x .bytes) ≤ 256) → Sendable config x
+sendable x k m n r f z w l =
+    let s = and-both _ _ m in
+    record {
+      positive = ltb-true _ _ (s .0);
+      small = leb-true _ _ (s .1);
+      few = leb-true _ _ n;
+      packable = packable (x .unit) r f z;
+      place = k;
+      watched = w;
+      joins = l;
+    }
 
 not-signalling : {A : Type 0} (k : ℕ) → eqb k 4 ≡ false → k ≡ 4 → A
 not-signalling k e q = absurd (eqb-false _ _ e q)
 
+-- one piece is joined to none
+alone : {A : Type 0} (n : ℕ) → eqb n 1 ≡ true → 1 < n → A
+alone n e h = absurd (omega (arith, eqb-true n 1 e))
+
 all-sendable : AllSendable config units
-unfolding be bytesOf lookupOf firstFrom ownFields piecesBy pieces indicatorAt counterAt withPsn pieceAt outerHead payloadType mmtpHead
-    indicatorBits fragmentBits mpuHead signallingHead payloadHead timedFields fieldsWritten dataUnit mmtpOf packetOf packetAt packetsFrom
-    packets joined run refusalOf packed packOf
+unfolding lookupOf firstFrom ownFields piecesBy pieces
 all-sendable = (
-  sendable inPieces 0 refl refl refl (λ e. refl) refl refl,
+  sendable inPieces 0 refl refl refl refl (λ e. refl) refl (λ h. leb-true _ _ refl),
   (
-    sendable timed 1 refl refl refl (not-signalling 2 refl) refl refl,
+    sendable timed 1 refl refl refl refl (not-signalling 2 refl) refl (alone _ refl),
     (
-      sendable nothing 0 refl refl refl (λ e. refl) refl refl,
-      (sendable item 2 refl refl refl (not-signalling 3 refl) refl refl, tt),
+      sendable nothing 0 refl refl refl refl (λ e. refl) refl (alone _ refl),
+      (
+        sendable item 2 refl refl refl refl (not-signalling 3 refl) refl (λ h. leb-true _ _ refl),
+        (
+          sendable aboveLimit 1 refl refl refl refl (not-signalling 0 refl) refl (alone _ refl),
+          (sendable metadata 2 refl refl refl refl (not-signalling 1 refl) refl (alone _ refl), tt),
+        ),
+      ),
     ),
   ),
 )
 
 follow : Consecutive [] units
 unfolding piecesBy pieces withPsn
-follow = (tt, (tt, (refl, (tt, tt))))
+follow = (tt, (tt, (refl, (tt, (refl, (refl, tt))))))
 
 pub example : Meets
 unfolding be bytesOf before twiceBelow twice startRefusal startOf lookupOf firstFrom allBelow dataBytes unlisted piecesBy pieces indicatorAt
@@ -124,7 +157,7 @@ example =
       starts = refl;
       sendable = all-sendable;
       consecutive = follow;
-      padding = ((nulls .0, tt), ((nulls .1, tt), no-gaps 258 ((null 1 30 ∷ []) ∷ []) ((nulls .2, tt), tt)));
+      padding = padding;
       listed = refl;
       multiple = refl;
     }

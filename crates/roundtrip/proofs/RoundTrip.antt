@@ -1,30 +1,25 @@
 -- The round trip: the slots give the run's packets, these the units' pieces, and these the units.
-use Prim.Native.Nat.{ℕ}
+use Prim.Native.Nat.{ℕ, _≤_}
 use mathlib.Core.Path.{_≡_, refl, _∙_, ap}
-use mathlib.Core.Bool.{Bool, true, false, cond}
 use mathlib.Core.List.{List, [], _∷_, map}
 use native.Mathlib.Omega.{arith}
-use lib.ListN.{length}
-use lib.Dec.{eqb}
-use borrow.Author.Tests.{eqb-true}
-use Rattle.tlv.specs.Run.{Labelled as Labelled-packet, searching, packets, intact, run as slot-run}
+use borrow.Author.Tests.{ne-eqb, le-ltb}
+use Rattle.tlv.specs.Run.{Arrival, Labelled as Labelled-packet, searching, packets, intact, run as slot-run}
 use Rattle.reassembly.specs.declared.config.Config.{Config}
-use Rattle.reassembly.specs.declared.unit.Unit.{Unit}
 use Rattle.reassembly.specs.Channel.{unheard}
 use Rattle.reassembly.specs.Run.{fresh}
-use Rattle.packer.specs.declared.pack.Packed.{Packed}
-use Rattle.packer.specs.Packer.{packOf, refusalOf, refusedWith, joined, run as packed-run}
-use Rattle.packer.proofs.Refusals.{Accepted, not-refused}
-use Rattle.cutter.proofs.Runs.{cut-run}
-use Rattle.packer.specs.Pieces.{pieces}
+use Rattle.packer.specs.Packer.{packOf, refusalOf, joined, run as packed-run}
+use Rattle.receiver.specs.Start.{starts}
+use Rattle.cutter.proofs.Runs.{cut-each, cut-run}
 use Rattle.packer.proofs.PacketReads.{packets-read}
 use Rattle.broadcast.specs.Drains.{unit, strip}
 use Rattle.broadcast.specs.Account.{events, account}
 use Rattle.broadcast.specs.Frames.{none, ownSlots}
 use Rattle.broadcast.proofs.Inputs.{counted}
 use Rattle.broadcast.proofs.Arrivals.{frames-intact}
+use Rattle.broadcast.proofs.Demand3.{start-accepted}
 use Rattle.broadcast.proofs.Readings.{reading-theorem}
-use Rattle.roundtrip.specs.Sending.{Parcel, AllSendable, parcelPackets, allPackets, padded}
+use Rattle.roundtrip.specs.Sending.{Parcel, Sendable, AllSendable, Packs, AllPack, parcelPackets, allPackets, padded}
 use Rattle.roundtrip.specs.RoundTrip.{RoundTrip}
 use Rattle.roundtrip.proofs.Runs.{Good, good-append, padded-good, run-cut, run-kept, run-fills}
 use Rattle.roundtrip.proofs.Inputs.{
@@ -39,18 +34,23 @@ use Rattle.roundtrip.proofs.Inputs.{
 }
 use Rattle.roundtrip.proofs.Units.{allInputs, AllStand, units-back}
 
--- what the packer asks of a call that it does not refuse
-pack-accepted : (u : Unit) (cid sn m : ℕ) (s out : List ℕ) → packOf u cid sn m s out .0 .refusal ≡ 0
-    → Accepted m (u .kind) (length (pieces m s)) (length (packed-run u cid sn m s)) (length out) cid
-unfolding packOf
-pack-accepted u cid sn m s out e =
-    let n : ℕ = refusalOf m (u .kind) (length (pieces m s)) (length (packed-run u cid sn m s)) (length out) cid in
-    not-refused _ _ _ _ _ _ (go n (eqb n 0) (length (packed-run u cid sn m s)) _ _ refl e)
-  where
-    go : (n : ℕ) (b : Bool) (len : ℕ) (a c : List ℕ) → eqb n 0 ≡ b
-        → (cond {A = Packed × List ℕ} b (record { refusal = 0; len = len }, a) (refusedWith n, c)) .0 .refusal ≡ 0 → n ≡ 0
-    go n true len a c q e = eqb-true _ _ q
-    go n false len a c q e = e
+-- the packer takes a unit
+pack-one : (cfg : Config) (x : Parcel) → Sendable cfg x → cfg .cid ≤ 4095 → Packs cfg x
+unfolding packOf refusalOf packed-run
+pack-one cfg x s c out room =
+    let z : x .m ≡ 0 → ⊥ = λ e. omega (arith, s .positive) in
+    rw (
+      ne-eqb _ _ z,
+      le-ltb _ _ (s .small),
+      le-ltb _ _ (s .packable .kinds),
+      le-ltb _ _ (s .few),
+      le-ltb _ _ room,
+      le-ltb _ _ c,
+    )
+
+pack-all : (cfg : Config) (us : List Parcel) → AllSendable cfg us → cfg .cid ≤ 4095 → AllPack cfg us
+pack-all cfg [] h c = tt
+pack-all cfg (x ∷ us) h c = (pack-one cfg x (h .0) c, pack-all cfg us (h .1) c)
 
 -- the packets of all units: whole and short, none of them noted, and what they bring
 pub record Sent (cfg : Config) (us : List Parcel) (h : AllSendable cfg us) : Type 0 where
@@ -58,14 +58,13 @@ pub record Sent (cfg : Config) (us : List Parcel) (h : AllSendable cfg us) : Typ
   pub quiet : AllQuiet cfg (allPackets (cfg .cid) us)
   pub inputs : brings cfg (allPackets (cfg .cid) us) ≡ allInputs cfg us h
 
-module _ (cfg : Config) where
+module _ (cfg : Config) (cid : cfg .cid ≤ 4095) where
   sent-on : (u : Parcel) (us : List Parcel) (h : AllSendable cfg (u ∷ us)) → Sent cfg us (h .1) → Sent cfg (u ∷ us) h
   unfolding allPackets allInputs
   sent-on u us h t =
       let s = h .0 in
-      let a = pack-accepted (u .unit) (cfg .cid) (u .sn) (u .m) (u .bytes) (u .output) (s .packs) in
       let r = packets-read (u .unit) (cfg .cid) (u .sn) (u .m) (s .place) (cfg .watch) (u .bytes) (s .packable)
-      (omega (arith, a .cids)) (a .positive) (a .short) (s .watched) in
+      (omega arith) (s .positive) (s .small) (s .watched) in
       let q = unit-read cfg (u .unit) (s .place) (u .m) (u .bytes) (parcelPackets (cfg .cid) u) (r .2) in
       record {
         good = good-append (parcelPackets (cfg .cid) u) (allPackets (cfg .cid) us) (r .0, r .1) (t .good);
@@ -84,19 +83,26 @@ fresh-stands cfg A id k e = refl
 
 pub round-trip : RoundTrip
 unfolding account
-round-trip cfg ok us h c gaps n l k listed multiple fs begun slots p col xs reads none-refused =
+round-trip cfg ok us h c gaps n l k listed multiple =
     let A = ℕ × ℕ in
+    let cid : cfg .cid ≤ 4095 = starts cfg (start-accepted cfg ok .0) .cid in
     let ps : List (List ℕ) = padded gaps (allPackets (cfg .cid) us) in
-    let s = all-sent cfg us h in
+    let s = all-sent cfg cid us h in
     let g = padded-good gaps (allPackets (cfg .cid) us) n (s .good) in
     let b = padded-brings cfg gaps (allPackets (cfg .cid) us) n (s .quiet) in
-    let own = ownSlots (cfg .stream) 0 fs in
-    let r = cut-run A (joined ps) l k own (run-fills ps g l k listed multiple) (run-kept ps g) slots in
-    let es = slot-run searching (intact own) in
-    let bytes : map (λ (q : Labelled-packet A). q .bytes) (packets es) ≡ ps = r .1 ∙ run-cut ps g in
-    let q : AllQuiet cfg (map (λ (q : Labelled-packet A). q .bytes) (packets es)) = rw bytes (b .0) in
-    let i = counted-brings cfg (packets es) ∙ ap (brings cfg) bytes ∙ b .1 ∙ s .inputs in
-    reading-theorem cfg ok fs begun none p col xs reads none-refused
-    ∙ ap (λ (a : _). map strip (events cfg (λ j. fresh) (slot-run searching a))) (frames-intact (cfg .stream) 0 fs)
-    ∙ ap (map strip) (events-run cfg es (r .0) q (λ j. fresh))
-    ∙ units-back cfg [] us h c (λ j. fresh) (fresh-stands cfg (List A)) (counted cfg es) i
+    let fills = run-fills ps g l k listed multiple in
+    record {
+      packs = pack-all cfg us h cid;
+      cuts = λ i out. cut-each (joined ps) l k i out fills;
+      comes-back = λ fs begun slots p col xs reads none-refused.
+          let own = ownSlots (cfg .stream) 0 fs in
+          let r = cut-run A (joined ps) l k own fills (run-kept ps g) slots in
+          let es = slot-run searching (intact own) in
+          let bytes : map (λ (q : Labelled-packet A). q .bytes) (packets es) ≡ ps = r .1 ∙ run-cut ps g in
+          let q : AllQuiet cfg (map (λ (q : Labelled-packet A). q .bytes) (packets es)) = rw bytes (b .0) in
+          let i = counted-brings cfg (packets es) ∙ ap (brings cfg) bytes ∙ b .1 ∙ s .inputs in
+          reading-theorem cfg ok fs begun none p col xs reads none-refused
+          ∙ ap (λ (a : List (Arrival A)). map strip (events cfg (λ j. fresh) (slot-run searching a))) (frames-intact (cfg .stream) 0 fs)
+          ∙ ap (map strip) (events-run cfg es (r .0) q (λ j. fresh))
+          ∙ units-back cfg [] us h c (λ j. fresh) (fresh-stands cfg (List A)) (counted cfg es) i;
+    }

@@ -19,7 +19,7 @@ use Rattle.packer.specs.Rejoins.{inputs, Ready, unheard, idle}
 use Rattle.packer.proofs.Pieces.{pieces-some}
 use Rattle.packer.proofs.Rejoins.{unit-rejoined, next-after}
 use Rattle.broadcast.specs.Drains.{Shown, unit as shown-unit, strip}
-use Rattle.roundtrip.specs.Sending.{Parcel, pieceCount, AllSendable, ifSo, Follows, Consecutive, contentOf}
+use Rattle.roundtrip.specs.Sending.{Parcel, pieceCount, AllSendable, ifSo, PsnFollows, Consecutive, contentOf}
 
 -- a list that is one list behind another once mapped
 pub record Split {A B : Type 0} (g : A → B) (xs : List A) (a b : List B) : Type 0 where
@@ -61,13 +61,13 @@ module _ (cfg : Config) where
   AllStand sent f = (id k : ℕ) → lookupOf (cfg .watch) id ≡ At k → Stands sent id (f k .channel)
 
   -- it is ready for a unit that follows them
-  ready : (sent : List Parcel) (u : Parcel) (ch : Channel) → Follows sent u → Stands sent (u .unit .«packet_id») ch
+  ready : (sent : List Parcel) (u : Parcel) (ch : Channel) → PsnFollows sent u → Stands sent (u .unit .«packet_id») ch
       → Ready ch (u .unit .psn)
   ready [] u ch h s = unheard s
   ready (v ∷ vs) u ch h s = go (eqb (v .unit .«packet_id») (u .unit .«packet_id»)) (ready vs u ch) h s
     where
-      go : (b : Bool) → (Follows vs u → Stands vs (u .unit .«packet_id») ch → Ready ch (u .unit .psn))
-          → ifSo b (u .unit .psn ≡ withPsn (v .unit) (pieceCount v) .psn) (Follows vs u)
+      go : (b : Bool) → (PsnFollows vs u → Stands vs (u .unit .«packet_id») ch → Ready ch (u .unit .psn))
+          → ifSo b (u .unit .psn ≡ withPsn (v .unit) (pieceCount v) .psn) (PsnFollows vs u)
           → ifSo b ((ch .phase ≡ Idle) × (ch .last ≡ withPsn (v .unit) (pieceCount v - 1) .psn)) (Stands vs (u .unit .«packet_id») ch)
           → Ready ch (u .unit .psn)
       go true ih h s = idle (s .0) (rw (s .1) (next-after (v .unit) (pieceCount v) (pieces-some (v .m) (v .bytes)) ∙ sym h))

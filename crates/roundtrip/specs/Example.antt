@@ -1,5 +1,6 @@
--- A run that meets the round trip's conditions: three packet_ids, a unit of 256 pieces and exactly R bytes whose psn wraps, an
--- empty one, one in two pieces, null packets of 4 and of 16,384 bytes, and one that fills the last slot.
+-- A run that meets the round trip's conditions: three packet_ids, all kinds, a unit of 256 pieces and exactly R bytes whose psn
+-- wraps, an empty one, one in two pieces, one in one piece above R, null packets of 4 and of 16,384 bytes, and one that fills the
+-- last slot.
 use Prim.Native.Nat.{ℕ, _+_, _*_}
 use mathlib.Core.Path.{_≡_}
 use mathlib.Core.Bool.{false}
@@ -13,9 +14,9 @@ use Rattle.cutter.specs.Slot.{unlisted}
 use Rattle.roundtrip.specs.Sending.{Parcel, AllSendable, Consecutive, AllGaps}
 use Rattle.roundtrip.specs.RoundTrip.{runOf}
 
--- R is 256
+-- R is 256; packet_id 20 is watched and not sent
 abbrev pub config : Config
-config = record { stream = 1; cid = 2; watch = record { ids = 17 ∷ 18 ∷ 19 ∷ replicate 13 0; n = 3 }; limit = 256 }
+config = record { stream = 1; cid = 2; watch = record { ids = 17 ∷ 18 ∷ 19 ∷ 20 ∷ replicate 12 0; n = 4 }; limit = 256 }
 
 abbrev parcel : ℕ → ℕ → ℕ → ℕ → Fields → ℕ → List ℕ → Parcel
 parcel id kind psn mpu fields m bytes =
@@ -24,7 +25,6 @@ parcel id kind psn mpu fields m bytes =
       bytes = bytes;
       sn = 15;
       m = m;
-      output = replicate 6000 0;
     }
 
 abbrev pub inPieces : Parcel
@@ -43,22 +43,30 @@ item =
     parcel 19 3 0 6 (record { «movie_fragment» = 0; sample = 0; offset = 0; priority = 0; dependency = 0; item = 8 }) 2
     (1 ∷ 2 ∷ 3 ∷ [])
 
+-- in one piece, and longer than R
+abbrev pub aboveLimit : Parcel
+aboveLimit = parcel 18 0 10 5 noFields 1400 (replicate 300 9)
+
+abbrev pub metadata : Parcel
+metadata = parcel 19 1 2 7 noFields 5 (1 ∷ 2 ∷ 3 ∷ [])
+
 abbrev pub units : List Parcel
-units = inPieces ∷ timed ∷ nothing ∷ item ∷ []
+units = inPieces ∷ timed ∷ nothing ∷ item ∷ aboveLimit ∷ metadata ∷ []
 
--- a null packet whose length field has these two bytes
-abbrev pub null : ℕ → ℕ → List ℕ
-null a b = 0x7F ∷ 0xFF ∷ a ∷ b ∷ replicate (a * 256 + b) 0xA5
+-- a null packet by its first byte and the two bytes of its length field, with contents that look like packets of type 3
+abbrev pub null : ℕ → ℕ → ℕ → List ℕ
+null first a b = first ∷ 0xFF ∷ a ∷ b ∷ replicate (a * 256 + b) 3
 
--- before the first of 260 packets, before the second, which is in the middle of the first unit, and behind the last
+-- before the first of 262 packets; two of them before the second, which is in the middle of the first unit; behind the last
 abbrev pub gaps : List (List (List ℕ))
-gaps = (null 0 0 ∷ []) ∷ (null 0x3F 0xFC ∷ []) ∷ replicate 258 [] ++ ((null 1 30 ∷ []) ∷ [])
+gaps =
+    (null 0x40 0 0 ∷ []) ∷ (null 0x7F 0x3F 0xFC ∷ null 0x7F 0 0 ∷ []) ∷ replicate 260 [] ++ ((null 0x5A 7 3 ∷ []) ∷ [])
 
--- it fills 12 slots of 1,870 bytes
+-- it fills 13 slots of 1,870 bytes
 pub record Meets : Type 0 where
   pub starts : startOf config .refusal ≡ 0
   pub sendable : AllSendable config units
   pub consecutive : Consecutive [] units
   pub padding : AllGaps gaps
   pub listed : unlisted 1870 ≡ false
-  pub multiple : length (runOf config units gaps) ≡ 12 * 1870
+  pub multiple : length (runOf config units gaps) ≡ 13 * 1870

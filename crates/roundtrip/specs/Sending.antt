@@ -11,29 +11,28 @@ use Rattle.tlv.specs.Packet.{maxPacket}
 use Rattle.reassembly.specs.declared.config.Config.{Config}
 use Rattle.reassembly.specs.declared.unit.Unit.{Unit}
 use Rattle.reassembly.specs.Run.{Content}
-use Rattle.packer.specs.Pieces.{pieces, withPsn}
-use Rattle.packer.specs.Packer.{packets, packOf}
+use Rattle.packer.specs.Pieces.{pieces, maxPieces, withPsn}
+use Rattle.packer.specs.Packer.{packets, joined, packed, packOf}
 use Rattle.packer.specs.Reads.{Packable, WholePacket}
 
--- a unit as the packer is given it: what it carries, with its first psn; its bytes; the first SN; the piece size m; an output
+-- a unit as the packer is given it: what it carries, with its first psn; its bytes; the first SN; the piece size m
 pub record Parcel : Type 0 where
   pub unit : Unit
   pub bytes : List ℕ
   pub sn : ℕ
   pub m : ℕ
-  pub output : List ℕ
 
--- its TLV packets, which the packer writes one behind the other
+-- its TLV packets
 abbrev pub parcelPackets : ℕ → Parcel → List (List ℕ)
-parcelPackets cid u = packets (u .unit) cid (u .sn) (u .m) (u .bytes)
+parcelPackets cid x = packets (x .unit) cid (x .sn) (x .m) (x .bytes)
 
 abbrev pub pieceCount : Parcel → ℕ
-pieceCount u = length (pieces (u .m) (u .bytes))
+pieceCount x = length (pieces (x .m) (x .bytes))
 
 -- "each unit's packets before the next unit's"
 unfoldable pub allPackets : ℕ → List Parcel → List (List ℕ)
 allPackets cid [] = []
-allPackets cid (u ∷ us) = parcelPackets cid u ++ allPackets cid us
+allPackets cid (x ∷ xs) = parcelPackets cid x ++ allPackets cid xs
 
 -- a null packet: type 0xFF, a whole TLV packet that starts 01, "at most 16,384 bytes with header"
 pub record Null (b : List ℕ) : Type 0 where
@@ -45,7 +44,7 @@ abbrev pub AllNull : List (List ℕ) → Type 0
 AllNull [] = Prim.Unit {0}
 AllNull (b ∷ bs) = Null b × AllNull bs
 
--- packets with null packets in between: some before each packet, and some behind the last one
+-- packets with null packets in between: gap i stands before packet i, one more behind the last; gaps that are missing are empty
 unfoldable pub padded : List (List (List ℕ)) → List (List ℕ) → List (List ℕ)
 padded [] qs = qs
 padded (g ∷ gs) [] = g
@@ -55,33 +54,46 @@ abbrev pub AllGaps : List (List (List ℕ)) → Type 0
 AllGaps [] = Prim.Unit {0}
 AllGaps (g ∷ gs) = AllNull g × AllGaps gs
 
--- a unit for this receiver: the packer takes it; its numbers fit, "fields that a kind lacks 0"; its packet_id is watched;
--- "joined units at most R"
-pub record Sendable (cfg : Config) (u : Parcel) : Type 0 where
-  pub packs : packOf (u .unit) (cfg .cid) (u .sn) (u .m) (u .bytes) (u .output) .0 .refusal ≡ 0
-  pub packable : Packable (u .unit)
+-- a unit for this receiver: what the packer asks of a unit; "fields that a kind lacks 0"; its packet_id is watched; "joined units
+-- at most R", while a unit of one piece may be longer
+pub record Sendable (cfg : Config) (x : Parcel) : Type 0 where
+  pub positive : 0 < x .m
+  pub small : x .m ≤ 1400
+  pub few : pieceCount x ≤ maxPieces
+  pub packable : Packable (x .unit)
   pub place : ℕ
-  pub watched : lookupOf (cfg .watch) (u .unit .«packet_id») ≡ At place
-  pub joins : 1 < pieceCount u → length (u .bytes) ≤ cfg .limit
+  pub watched : lookupOf (cfg .watch) (x .unit .«packet_id») ≡ At place
+  pub joins : 1 < pieceCount x → length (x .bytes) ≤ cfg .limit
 
 abbrev pub AllSendable : Config → List Parcel → Type 0
 AllSendable cfg [] = Prim.Unit {0}
-AllSendable cfg (u ∷ us) = Sendable cfg u × AllSendable cfg us
+AllSendable cfg (x ∷ xs) = Sendable cfg x × AllSendable cfg xs
 
 abbrev pub ifSo : Bool → Type 0 → Type 0 → Type 0
 ifSo true a b = a
 ifSo false a b = b
 
 -- "psn consecutive per id": a unit follows the last one of its packet_id among those sent before it, the latest first
-abbrev pub Follows : List Parcel → Parcel → Type 0
-Follows [] u = Prim.Unit {0}
-Follows (v ∷ vs) u =
-    ifSo (eqb (v .unit .«packet_id») (u .unit .«packet_id»)) (u .unit .psn ≡ withPsn (v .unit) (pieceCount v) .psn) (Follows vs u)
+abbrev pub PsnFollows : List Parcel → Parcel → Type 0
+PsnFollows [] x = Prim.Unit {0}
+PsnFollows (y ∷ ys) x =
+    ifSo (eqb (y .unit .«packet_id») (x .unit .«packet_id»)) (x .unit .psn ≡ withPsn (y .unit) (pieceCount y) .psn) (PsnFollows ys x)
 
 abbrev pub Consecutive : List Parcel → List Parcel → Type 0
 Consecutive sent [] = Prim.Unit {0}
-Consecutive sent (u ∷ us) = Follows sent u × Consecutive (u ∷ sent) us
+Consecutive sent (x ∷ xs) = PsnFollows sent x × Consecutive (x ∷ sent) xs
 
 -- what is to come back of a unit: packet_id, kind, first psn, MPU number, all fields, and the bytes
 abbrev pub contentOf : Parcel → Content
-contentOf u = record { info = u .unit; bytes = u .bytes }
+contentOf x = record { info = x .unit; bytes = x .bytes }
+
+-- the packer takes the unit, given output enough, and writes its packets one behind the other from byte 0 on
+abbrev pub Packs : Config → Parcel → Type 0
+Packs cfg x =
+    (out : List ℕ) → let r = joined (parcelPackets (cfg .cid) x) in
+    length r ≤ length out
+    → packOf (x .unit) (cfg .cid) (x .sn) (x .m) (x .bytes) out ≡ (record { refusal = 0; len = length r }, packed r out)
+
+abbrev pub AllPack : Config → List Parcel → Type 0
+AllPack cfg [] = Prim.Unit {0}
+AllPack cfg (x ∷ xs) = Packs cfg x × AllPack cfg xs
