@@ -38,6 +38,11 @@ message =
       fields = record { «movie_fragment» = 0; sample = 0; offset = 0; priority = 0; dependency = 0; item = 0 };
     }
 
+-- a packet of it with one byte, by the CID's last 4 bits with SN, psn, the byte with FI, counter
+abbrev piece : ℕ → ℕ → ℕ → ℕ → ℕ → List ℕ
+piece sn psn fi counter b =
+    0x7F ∷ 3 ∷ 0 ∷ 18 ∷ 0 ∷ sn ∷ 0x61 ∷ 0 ∷ 2 ∷ 0 ∷ 0 ∷ 0 ∷ 0 ∷ 0 ∷ 0 ∷ 0 ∷ 0 ∷ 0 ∷ psn ∷ fi ∷ counter ∷ b ∷ []
+
 -- a packet of CID 5 up to its psn: the length, the CID's last 4 bits with SN, payload type 0, packet_id 0x0102, timestamp 0
 abbrev head : ℕ → ℕ → List ℕ → List ℕ
 head len sn rest = 0x7F ∷ 3 ∷ 0 ∷ len ∷ 0 ∷ sn ∷ 0x61 ∷ 0 ∷ 0 ∷ 1 ∷ 2 ∷ 0 ∷ 0 ∷ 0 ∷ 0 ∷ rest
@@ -71,6 +76,8 @@ Examples =
     ∷ head 39 0x50 (0 ∷ 0 ∷ 0 ∷ 0 ∷ mpu 22 0x2C 1 (timed (3 ∷ 4 ∷ [])))
     ∷ head 38 0x51 (0 ∷ 0 ∷ 0 ∷ 1 ∷ mpu 21 0x2E 0 (timed (5 ∷ [])))
     ∷ [])
+    -- signalling in three pieces: FI in the top two bits of its first byte, the others 0
+    × (packets message 5 0 1 (1 ∷ 2 ∷ 3 ∷ []) ≡ piece 0x50 7 0x40 2 1 ∷ piece 0x51 8 0x80 1 2 ∷ piece 0x52 9 0xC0 0 3 ∷ [])
     -- "the rest if not empty"
     × (pieces 2 (1 ∷ 2 ∷ 3 ∷ 4 ∷ []) ≡ (1 ∷ 2 ∷ []) ∷ (3 ∷ 4 ∷ []) ∷ [])
     -- kinds 0 and 1
@@ -81,7 +88,7 @@ pub examples : Examples
 unfolding bytesOf pasted piecesBy pieces indicatorAt counterAt withPsn pieceAt outerHead payloadType mmtpHead indicatorBits
     fragmentBits mpuHead signallingHead payloadHead timedFields fieldsWritten dataUnit mmtpOf packetOf packetAt packetsFrom
     packets joined run refusalOf packed packOf
-examples = (refl, refl, refl, refl, refl, refl)
+examples = (refl, refl, refl, refl, refl, refl, refl)
 
 -- a refused call, and the output as it was
 abbrev Refuses : ℕ → Unit → ℕ → ℕ → List ℕ → List ℕ → Type 0
