@@ -2,3 +2,4 @@
 pub mod Sent
 pub mod Run
 pub mod Compare
+pub mod Reading

@@ -41,7 +41,7 @@ pointed-one run n block = rw add-one
 abbrev unused : List ℕ
 unused = 0xff ∷ 0 ∷ 0 ∷ []
 
--- byte 0; eight modes, the first of modulation 1 and rate 1 for all slots; types, relative stream 0 being TLV; pointers, none yet;
+-- byte 0; eight modes, the first of modulation 1 and rate 1 for all slots; types, relative stream 0 being TLV; no pointers yet;
 -- relative streams of slots, all 0; stream ids, relative stream 0's being 1
 unfoldable pub blankBlock : List ℕ
 blankBlock =

@@ -1,6 +1,7 @@
 // The reading: start, frame, and the slots of the run, each with next until nothing waits.
 ghost use mathlib.Core.Path.{_≡_};
 ghost use Rattle.test_signal.specs.Compare.{isSame};
+ghost use Rattle.test_signal.specs.Reading.{unitMore, stepOf, drained, nexts, gaveOf, frameSlot, begun, readOf};
 use crate::compare;
 use crate::print;
 use crate::run;
@@ -53,7 +54,9 @@ fn take_unit<'a>(
     source: &[u8],
     packet: &'a [u8],
     collecting: &'a [u8],
-) -> Counts {
+) -> Counts
+    ensures { λ r. ⌜ r ≡ unitMore counts ⌝ }
+{
     let unit = given.unit;
     let place = given.place;
     let bytes = show(packet, collecting, place);
@@ -64,7 +67,9 @@ fn take_unit<'a>(
 }
 
 // A call of next.
-fn call_next(r: Reading, source: &[u8], packet: &[u8], collecting: &mut [u8]) -> Step {
+fn call_next(r: Reading, source: &[u8], packet: &[u8], collecting: &mut [u8]) -> Step
+    ensures { λ s. ⌜ (s, now (collecting .exit)) ≡ stepOf r (now (packet .entry)) (now (collecting .entry)) ⌝ }
+{
     let before = r.state;
     let counts = r.counts;
     let answer = receiver::next::next(before, packet, collecting);
@@ -108,7 +113,9 @@ fn call_next(r: Reading, source: &[u8], packet: &[u8], collecting: &mut [u8]) ->
 }
 
 // Calls of next until nothing waits.
-fn drain(r: Reading, source: &[u8], packet: &[u8], collecting: &mut [u8]) -> Reading {
+fn drain(r: Reading, source: &[u8], packet: &[u8], collecting: &mut [u8]) -> Reading
+    ensures { λ s. ⌜ (s, now (collecting .exit)) ≡ drained nexts r (now (packet .entry)) (now (collecting .entry)) ⌝ }
+{
     let mut reading = r;
     let mut left = NEXTS;
     while left > 0 {
@@ -129,7 +136,10 @@ fn give(
     source: &[u8],
     packet: &mut [u8],
     collecting: &mut [u8],
-) -> Reading {
+) -> Reading
+    ensures { λ s. ⌜ (s, now (packet .exit), now (collecting .exit))
+        ≡ gaveOf (now (bytes .entry)) (r, now (packet .entry), now (collecting .entry)) ⌝ }
+{
     let before = r.state;
     let called = receiver::slot::slot(before, packet, collecting, bytes);
     print::refusal(called.refusal);
@@ -146,7 +156,10 @@ fn take_slot(
     signal: &[u8],
     packet: &mut [u8],
     collecting: &mut [u8],
-) -> Reading {
+) -> Reading
+    ensures { λ s. ⌜ (s, now (packet .exit), now (collecting .exit))
+        ≡ gaveOf (frameSlot (now (signal .entry)) i) (r, now (packet .entry), now (collecting .entry)) ⌝ }
+{
     if i % 5 != 0 {
         return give(r, b"", source, packet, collecting);
     }
@@ -157,7 +170,9 @@ fn take_slot(
 }
 
 // A receiver that has read the control block.
-fn begin(signal: &[u8]) -> Reading {
+fn begin(signal: &[u8]) -> Reading
+    ensures { λ s. ⌜ s ≡ begun (now (signal .entry)) ⌝ }
+{
     let started = receiver::start::start(sent::config());
     print::refusal(started.refusal);
     let block = run::control_block(signal);
@@ -169,7 +184,10 @@ fn begin(signal: &[u8]) -> Reading {
     Reading { state, counts }
 }
 
-pub fn read(source: &[u8], signal: &[u8], packet: &mut [u8], collecting: &mut [u8]) -> Counts {
+pub fn read(source: &[u8], signal: &[u8], packet: &mut [u8], collecting: &mut [u8]) -> Counts
+    ensures { λ s. ⌜ (s, now (packet .exit), now (collecting .exit))
+        ≡ readOf (now (signal .entry)) (now (packet .entry)) (now (collecting .entry)) ⌝ }
+{
     let mut reading = begin(signal);
     let mut i = 0;
     while i < 5 * run::SLOTS {

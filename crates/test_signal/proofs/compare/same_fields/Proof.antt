@@ -36,7 +36,13 @@ returns-5 c =
     let d3 = d4 .before .before .before in
     let d2 = d3 .before .before .before in
     let d1 = d2 .before .before .before in
-    rw (eq-eqb _ _ (d1 .if1 .left), eq-eqb _ _ (d2 .if2 .left), eq-eqb _ _ (d3 .if3 .left), eq-eqb _ _ (d4 .if4 .left), ne-eqb _ _ (c .if5 .taken))
+    rw (
+      eq-eqb _ _ (d1 .if1 .left),
+      eq-eqb _ _ (d2 .if2 .left),
+      eq-eqb _ _ (d3 .if3 .left),
+      eq-eqb _ _ (d4 .if4 .left),
+      ne-eqb _ _ (c .if5 .taken),
+    )
 
 returns-6 : tie.Need-returns-6
 unfolding sameFields
@@ -46,7 +52,13 @@ returns-6 c =
     let d3 = d4 .before .before .before in
     let d2 = d3 .before .before .before in
     let d1 = d2 .before .before .before in
-    rw (eq-eqb _ _ (d1 .if1 .left), eq-eqb _ _ (d2 .if2 .left), eq-eqb _ _ (d3 .if3 .left), eq-eqb _ _ (d4 .if4 .left), eq-eqb _ _ (d5 .if5 .left))
+    rw (
+      eq-eqb _ _ (d1 .if1 .left),
+      eq-eqb _ _ (d2 .if2 .left),
+      eq-eqb _ _ (d3 .if3 .left),
+      eq-eqb _ _ (d4 .if4 .left),
+      eq-eqb _ _ (d5 .if5 .left),
+    )
 
 pub same-fields-spec : {M : Type 1} → statement M
 same-fields-spec = tie.close (tie.spec returns returns-2 returns-3 returns-4 returns-5 returns-6)

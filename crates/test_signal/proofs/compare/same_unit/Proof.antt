@@ -40,7 +40,13 @@ returns-5 c =
     let d3 = d4 .before .before .before in
     let d2 = d3 .before .before .before in
     let d1 = d2 .before .before .before in
-    rw (eq-eqb _ _ (d1 .if1 .left), eq-eqb _ _ (d2 .if2 .left), eq-eqb _ _ (d3 .if3 .left), eq-eqb _ _ (d4 .if4 .left), c .same-fields .ensures)
+    rw (
+      eq-eqb _ _ (d1 .if1 .left),
+      eq-eqb _ _ (d2 .if2 .left),
+      eq-eqb _ _ (d3 .if3 .left),
+      eq-eqb _ _ (d4 .if4 .left),
+      c .same-fields .ensures,
+    )
 
 pub same-unit-spec : {M : Type 1} → statement M
 same-unit-spec =

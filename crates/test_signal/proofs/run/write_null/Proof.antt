@@ -58,8 +58,9 @@ returns-4 c =
     let d2 = d3 .before in
     let d1 = d2 .before in
     let a = d1 .before .before .args in
+    let e = rw (k .copy-at .ensures) at (w .write16 .ensures) in
     let p = pasted-append (a .run .now) (a .at) (0x7f ∷ 0xff ∷ []) (bytesOf 2 (a .total - 4)) (omega arith) in (
-      rw (le-ltb _ _ (d1 .if1 .left), le-ltb _ _ (d2 .if2 .left), le-ltb _ _ (d3 .if3 .left), w .write16 .ensures, k .copy-at .ensures)
+      rw (le-ltb _ _ (d1 .if1 .left), le-ltb _ _ (d2 .if2 .left), le-ltb _ _ (d3 .if3 .left), e)
           (ap (λ l. (a .at + a .total, l)) p),
       search needs,
     )
