@@ -2,7 +2,7 @@
 ghost use mathlib.Core.Path.{_≡_};
 ghost use Prim.Native.Nat.{_<_, _≤_};
 ghost use lib.ListN.{length};
-ghost use Rattle.test_signal.specs.Run.{nullAt, pointed, blankBlock, controlBlock};
+ghost use Rattle.test_signal.specs.Run.{nullAt, unitWritten, runOf, pointed, blankBlock, controlBlock};
 use crate::print;
 use crate::sent;
 use crate::sent::UNITS;
@@ -44,7 +44,8 @@ fn write_null(run: &mut [u8], at: usize, total: usize) -> usize
 // Unit `k`, and a null packet behind it.
 fn write_unit(w: Written, k: u64, source: &[u8], run: &mut [u8]) -> Written
     requires { ⌜ w .at ≤ length (now run) ⌝ }
-    ensures { λ r. ⌜ r .at ≤ length (now (run .entry)) ⌝ }
+    ensures { λ r. ⌜ ((r, now (run .exit)) ≡ unitWritten w k (now (source .entry)) (now (run .entry)))
+        × (r .at ≤ length (now (run .entry))) ⌝ }
 {
     let at = w.at;
     let sent = sent::unit_at(k);
@@ -66,7 +67,9 @@ fn write_unit(w: Written, k: u64, source: &[u8], run: &mut [u8]) -> Written
 }
 
 // All units, and a null packet up to the end; how many units were packed.
-pub fn write(source: &[u8], run: &mut [u8]) -> u64 {
+pub fn write(source: &[u8], run: &mut [u8]) -> u64
+    ensures { λ r. ⌜ (r, now (run .exit)) ≡ runOf (now (source .entry)) (now (run .entry)) ⌝ }
+{
     let mut w = Written { at: 0, packed: 0 };
     let mut k = 0;
     while k < UNITS {
