@@ -1,0 +1,95 @@
+-- What is written of the run: null packets, and the control block with the cutter's pointers.
+use Prim.Native.Nat.{ℕ, zero, suc, _+_, _-_, _*_, _%_, _^_}
+use mathlib.Core.Path.{_≡_}
+use mathlib.Core.Bool.{cond}
+use mathlib.Core.List.{List, [], _∷_, _++_}
+use native.Mathlib.Numerals.{add-one}
+use lib.Dec.{eqb, ltb}
+use lib.ListN.{length, take, drop, replicate}
+use Rattle.wire.specs.Field.{bytesOf}
+use Rattle.wire.specs.Memory.{pasted, partOf}
+use Rattle.packer.specs.declared.pack.Packed.{Packed}
+use Rattle.packer.specs.Packer.{packOf}
+use Rattle.cutter.specs.Slot.{slotOf}
+use Rattle.test_signal.specs.declared.run.Written.{Written}
+use Rattle.test_signal.specs.Sent.{sentAt}
+
+-- the header of a null packet of `total` bytes
+unfoldable pub nullHead : ℕ → List ℕ
+nullHead total = (0x7f ∷ 0xff ∷ []) ++ bytesOf 2 (total - 4)
+
+-- a null packet at `at`, where there is room for its `total` bytes: where it ends, and the run
+unfoldable pub nullAt : ℕ → ℕ → List ℕ → ℕ × List ℕ
+nullAt at total run =
+    cond (ltb (length run - at) total) (at, run)
+    (cond (ltb total 4) (at, run) (cond (ltb 16384 total) (at, run) (at + total, pasted run at (nullHead total) 4)))
+
+-- unit `k` at `w .at`, in pieces of 700 bytes and with CID 5, and a null packet of 150 bytes behind it
+unfoldable pub unitWritten : Written → ℕ → List ℕ → List ℕ → Written × List ℕ
+unitWritten w k source run =
+    let s = sentAt k in
+    let p = packOf (s .unit) 5 0 700 (partOf source (s .start) (s .len)) (drop (w .at) run) in
+    let n = nullAt (w .at + p .0 .len) 150 (take (w .at) run ++ p .1) in
+    (record { at = n .0; packed = cond (eqb (p .0 .refusal) 0) ((w .packed + 1) % 2 ^ 64) (w .packed) }, n .1)
+
+-- the first `n` units
+unfoldable pub unitsWritten : List ℕ → ℕ → List ℕ → Written × List ℕ
+unitsWritten source zero run = (record { at = 0; packed = 0 }, run)
+unitsWritten source (suc n) run =
+    let u = unitsWritten source n run in unitWritten (u .0) n source (u .1)
+
+-- all four, and a null packet up to the end: how many units were packed, and the run
+unfoldable pub runOf : List ℕ → List ℕ → ℕ × List ℕ
+runOf source run =
+    let u = unitsWritten source 4 run in
+    (u .0 .packed, nullAt (u .0 .at) (length (u .1) - u .0 .at) (u .1) .1)
+
+-- slot `s` of the run, counted from 0, is slot 5s + 1 of the frame: its top and last pointer in the control block
+unfoldable pub pointed : List ℕ → ℕ → List ℕ → List ℕ
+pointed run s block =
+    let slot = slotOf run 1870 s (replicate 1870 0) .0 in
+    pasted (pasted block (153 + 20 * s) (bytesOf 2 (slot .top)) 2) (155 + 20 * s) (bytesOf 2 (slot .last)) 2
+
+-- the first `n` slots of the run
+unfoldable pub pointedTo : List ℕ → ℕ → List ℕ → List ℕ
+pointedTo run zero block = block
+pointedTo run (suc n) block = pointed run n (pointedTo run n block)
+
+-- a unit, by what the calls left
+pub unit-written : (w : Written) (k : ℕ) (source run : List ℕ) (p : Packed) (out : List ℕ) (end : ℕ) (after : List ℕ)
+    → (p, out)
+    ≡ packOf (sentAt k .unit) 5 0 700 (partOf source (sentAt k .start) (sentAt k .len)) (drop (w .at) run)
+    → (end, after) ≡ nullAt (w .at + p .len) 150 (take (w .at) run ++ out)
+    → (record { at = end; packed = cond (eqb (p .refusal) 0) ((w .packed + 1) % 2 ^ 64) (w .packed) }, after)
+    ≡ unitWritten w k source run
+unfolding unitWritten
+unit-written w k source run p out end after e h = rw (← e, ← h)
+
+-- one unit more
+pub units-one : (source : List ℕ) (n : ℕ) (run : List ℕ) (w : Written) (now : List ℕ) (u : Written × List ℕ)
+    → (w, now) ≡ unitsWritten source n run → u ≡ unitWritten w n source now → u ≡ unitsWritten source (n + 1) run
+unfolding unitsWritten
+units-one source n run w now u e h = rw (add-one, ← e, h)
+
+-- one slot more
+pub pointed-one : (run : List ℕ) (n : ℕ) (block : List ℕ) → pointedTo run (n + 1) block ≡ pointed run n (pointedTo run n block)
+unfolding pointedTo
+pointed-one run n block = rw add-one
+
+-- "an unused mode is 0xFF, 0, 0"
+abbrev unused : List ℕ
+unused = 0xff ∷ 0 ∷ 0 ∷ []
+
+-- byte 0; eight modes, the first of modulation 1 and rate 1 for all slots; types, relative stream 0 being TLV; no pointers yet;
+-- relative streams of slots, all 0; stream ids, relative stream 0's being 1
+unfoldable pub blankBlock : List ℕ
+blankBlock =
+    (0 ∷ [])
+    ++ (0x11 ∷ 120 ∷ 0 ∷ [])
+    ++ unused ++ unused ++ unused ++ unused ++ unused ++ unused ++ unused
+    ++ (2 ∷ replicate 15 0)
+    ++ replicate 652 0
+    ++ bytesOf 2 1 ++ replicate 483 0
+
+unfoldable pub controlBlock : List ℕ → List ℕ
+controlBlock run = pointedTo run 3 blankBlock
