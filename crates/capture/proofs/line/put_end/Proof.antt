@@ -1,0 +1,59 @@
+-- Why `put_end` meets its contract: each part stands behind the one before.
+use native.Mathlib.Omega.{arith}
+use borrow.Author.Needs.{needs}
+use Rattle.capture.specs.Line.{endLine}
+use Rattle.capture.specs.Text.{put-more}
+use Rattle.capture.proofs.line.put_end.Statement.{statement}
+use Rattle.capture.proofs.line.put_end.Tie as tie
+use Rattle.capture.proofs.line.put_end.Reads as reads
+use Rattle.capture.proofs.line.put_end.Lts as lts
+use Rattle.capture.proofs.line.put_field.Reads as put-field-reads
+use Rattle.capture.proofs.line.put_word.Reads as put-word-reads
+
+-- src/line.rt:98:35
+slice-aggregate-put-word : tie.Need-slice-aggregate-put-word
+slice-aggregate-put-word c = search needs
+
+-- src/line.rt:98:9
+put-word-requires : tie.Need-put-word-requires
+put-word-requires c κs = search needs
+
+-- src/line.rt:99:9
+put-field-requires : tie.Need-put-field-requires
+put-field-requires c κs = search needs
+
+-- src/line.rt:100:9
+put-field-requires-2 : tie.Need-put-field-requires-2
+put-field-requires-2 c κs = search needs
+
+-- src/line.rt:101:5
+put-field-requires-3 : tie.Need-put-field-requires-3
+put-field-requires-3 c κs = search needs
+
+-- src/line.rt:94:1
+same-length : tie.Need-same-length
+same-length c = search needs
+
+-- src/line.rt:94:1
+returns : tie.Need-returns
+unfolding endLine
+returns c =
+    let a = c .before .before in
+    let b = a .before .before .before .before in
+    let c = b .before .before .before .before in
+    let d = c .before .before .before .before in
+    let x = put-more _ _ _ _ _ _ _ _ _ _ (d .put-word .ensures) (c .put-field .ensures) (omega arith) in
+    let y = put-more _ _ _ _ _ _ _ _ _ _ x (b .put-field2 .ensures) (omega arith) in
+    put-more _ _ _ _ _ _ _ _ _ _ y (a .put-field3 .ensures) (omega arith)
+
+pub put-end-spec : {M : Type 1} → statement M
+put-end-spec =
+    tie.close
+    (tie.spec
+    slice-aggregate-put-word
+    put-word-requires
+    put-field-requires
+    put-field-requires-2
+    put-field-requires-3
+    same-length
+    returns)
