@@ -2,3 +2,9 @@
 pub mod Text
 pub mod Decimal
 pub mod Line
+pub mod Command
+pub mod Session
+pub mod Waits
+pub mod Capture
+pub mod Examples
+pub mod Worked

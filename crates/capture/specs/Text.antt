@@ -22,6 +22,11 @@ module _ (out : List ℕ) (at : ℕ) where
   unfolding wrote
   length-wrote s h = length-pasted out at s (length s) h (omega arith)
 
+  -- nothing
+  pub wrote-none : wrote out at [] ≡ (at, out)
+  unfolding wrote
+  wrote-none = rw (add-zero at, ← pasted-zero out at [])
+
   -- one byte
   pub wrote-byte : (b : ℕ) → at < length out → (at + 1, set out at b) ≡ wrote out at (b ∷ [])
   unfolding wrote

@@ -1,3 +1,6 @@
 // A capture: commands from bytes, lines of text to bytes.
+pub mod act;
+pub mod command;
 pub mod decimal;
 pub mod line;
+pub mod session;
