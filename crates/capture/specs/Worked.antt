@@ -34,7 +34,7 @@ use Rattle.capture.specs.Decimal.{digits, decimal}
 use Rattle.capture.specs.Line.{field, placeText, carriedText, unitLine, idText, noteLine, refusedLine, endLine}
 use Rattle.capture.specs.Command.{letterOf, slotSize, sizeOf, whole, idsOf, configOf}
 use Rattle.capture.specs.Session.{freshSession}
-use Rattle.capture.specs.Waits.{queueWaits, waits}
+use Rattle.capture.specs.Waits.{queueWaits, cursorWaits, waitsBy}
 use Rattle.capture.specs.Capture.{callOf, afterCall, doneOf, drainedBy, drainedOf, textBy, textOf, captureOf}
 
 abbrev repeated : ℕ → List ℕ → List ℕ
@@ -81,5 +81,5 @@ unfolding be pasted partOf tab allBelow countBelow lastBelow dataBytes within us
     takenFrom turnOf advancedOf slotAdvanced tailAdvanced left before twiceBelow twice freshState startRefusal startOf frameBusy
     frameOf lossOf lostFrameOf shortBy refusalOf counted wrongLength slotOf lostSlotOf packetOf readOn readAll nextOf digits decimal
     field placeText carriedText unitLine idText noteLine refusedLine endLine letterOf slotSize sizeOf whole idsOf configOf freshSession queueWaits
-    waits callOf afterCall doneOf drainedBy drainedOf textBy textOf captureOf
+    cursorWaits waitsBy callOf afterCall doneOf drainedBy drainedOf textBy textOf captureOf
 worked = refl
