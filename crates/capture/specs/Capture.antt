@@ -1,9 +1,7 @@
 -- The meaning of a capture: from its bytes to its lines.
 use Prim.Native.Nat.{ℕ, zero, suc}
-use mathlib.Core.Path.{_≡_}
 use mathlib.Core.Bool.{Bool, true, false, cond, _&&_, not}
 use mathlib.Core.List.{List, [], _++_}
-use borrow.Author.Tests.{eq-eqb, ne-eqb}
 use lib.ListN.{length, getD, take, drop}
 use lib.Dec.{eqb}
 use Rattle.delivery.specs.declared.event.Event.{Event}
@@ -17,15 +15,14 @@ use Rattle.receiver.specs.Slot.{slotOf, lostSlotOf}
 use Rattle.receiver.specs.Next.{nextOf}
 use Rattle.capture.specs.declared.command.Letter.{Letter}
 use Rattle.capture.specs.declared.command.Letter.the-variants.{Start, Frame, LostFrame, Slot, LostSlot, Unknown}
-use Rattle.capture.specs.declared.act.Acted.{Acted}
 use Rattle.capture.specs.declared.session.Phase.{Phase}
 use Rattle.capture.specs.declared.session.Phase.the-variants.{Before, Reading, Ended}
 use Rattle.capture.specs.declared.session.Session.{Session}
-use Rattle.capture.specs.Text.{wrote, wrote-none}
+use Rattle.capture.specs.declared.session.Tally.{Tally}
 use Rattle.capture.specs.Line.{unitLine, noteLine, refusedLine, endLine}
 use Rattle.capture.specs.Command.{letterOf, sizeOf, whole, configOf}
-use Rattle.capture.specs.Session.{isEnded, busy, withState, inPhase, inFrame, inSlot, withUnit, withNote, freshSession}
-use Rattle.capture.specs.Waits.{waits}
+use Rattle.capture.specs.Session.{isEnded, busy, withState, inPhase, withTally, inFrame, inSlot, withUnit, withNote, freshSession}
+use Rattle.capture.specs.Waits.{waits, isLine}
 
 -- "C comes first and once; another order counts as unknown"
 abbrev pub fits : Phase → Letter → Bool
@@ -56,10 +53,10 @@ callOf Unknown st p c b = (accepted st, p)
 -- has slot 0"; a slot has the number of the slot that was due
 unfoldable pub afterCall : Letter → Session → Session
 afterCall Start s = inPhase s Reading
-afterCall Frame s = inFrame s
-afterCall LostFrame s = inFrame s
-afterCall Slot s = inSlot s (s .state .frame .at)
-afterCall LostSlot s = inSlot s (s .state .frame .at)
+afterCall Frame s = withTally s (inFrame (s .tally))
+afterCall LostFrame s = withTally s (inFrame (s .tally))
+afterCall Slot s = withTally s (inSlot (s .state .frame .at) (s .tally))
+afterCall LostSlot s = withTally s (inSlot (s .state .frame .at) (s .tally))
 afterCall Unknown s = s
 
 -- a command that was carried out: its line, if it was refused, the session, and packet memory
@@ -90,12 +87,32 @@ pub record Drained : Type 0 where
 abbrev pub behind : List ℕ → Drained → Drained
 behind t d = record { text = t ++ d .text; session = d .session; collecting = d .collecting }
 
+-- the line of an event
+unfoldable pub eventLine : Tally → Event → List ℕ
+eventLine t Nothing = []
+eventLine t (Note n id) = noteLine (t .frames) (t .slot) n id
+eventLine t (Unit g) = unitLine (t .frames) (t .slot) g
+eventLine t (Refused n) = refusedLine n
+
+unfoldable pub tallied : Tally → Event → Tally
+tallied t Nothing = t
+tallied t (Note n id) = withNote t
+tallied t (Unit g) = withUnit t
+tallied t (Refused n) = t
+
+-- the session after an event that is no line: nothing waits, or next was refused
+unfoldable pub closed : Session → Event → Session
+closed s Nothing = withState s (withOwed (s .state) false)
+closed s (Note n id) = s
+closed s (Unit g) = s
+closed s (Refused n) = inPhase s Ended
+
 -- after an event, `s` having the state that next left; `on` goes on from there
 abbrev pub eventBy : Event → Session → List ℕ → (Session → List ℕ → Drained) → Drained
-eventBy Nothing s c on = record { text = []; session = withState s (withOwed (s .state) false); collecting = c }
-eventBy (Note n id) s c on = behind (noteLine (s .frames) (s .slot) n id) (on (withNote s) c)
-eventBy (Unit g) s c on = behind (unitLine (s .frames) (s .slot) g) (on (withUnit s) c)
-eventBy (Refused n) s c on = record { text = refusedLine n; session = inPhase s Ended; collecting = c }
+eventBy e s c on =
+    let t = withTally s (tallied (s .tally) e) in
+    let more : Drained = behind (eventLine (s .tally) e) (on t c) in
+    cond (isLine e) more (record { text = eventLine (s .tally) e; session = closed t e; collecting = c })
 
 -- `f` bounds the calls
 unfoldable pub drainedBy : ℕ → Session → List ℕ → List ℕ → Drained
@@ -109,19 +126,23 @@ drainedBy (suc f) s p c =
 unfoldable pub drainedOf : Session → List ℕ → List ℕ → Drained
 drainedOf s p c = drainedBy (suc (waits (s .state) p)) s p c
 
+-- "last `end frames units notes`"
+abbrev pub lastLine : Tally → List ℕ
+lastLine t = endLine (t .frames) (t .units) (t .notes)
+
 -- "It ends at the end, an unknown or cut command, or a refusal": whether a command is read
 abbrev pub reads : Session → List ℕ → Bool
 reads s b = whole b && not (isEnded (s .phase))
 
 -- the lines from a session on, with the bytes b to come; `f` bounds the commands
 unfoldable pub textBy : ℕ → Session → List ℕ → List ℕ → List ℕ → List ℕ
-textBy zero s p c b = let d = drainedOf s p c in d .text ++ endLine (d .session .frames) (d .session .units) (d .session .notes)
+textBy zero s p c b = let d = drainedOf s p c in d .text ++ lastLine (d .session .tally)
 textBy (suc f) s p c b =
     let d : Drained = drainedOf s p c in
     let on : List ℕ =
     (let k = doneOf (d .session) p (d .collecting) (take (sizeOf b) b) in
     k .text ++ textBy f (k .session) (k .packet) (d .collecting) (drop (sizeOf b) b)) in
-    d .text ++ cond (reads (d .session) b) on (endLine (d .session .frames) (d .session .units) (d .session .notes))
+    d .text ++ cond (reads (d .session) b) on (lastLine (d .session .tally))
 
 unfoldable pub textOf : Session → List ℕ → List ℕ → List ℕ → List ℕ
 textOf s p c b = textBy (length b) s p c b
@@ -129,30 +150,3 @@ textOf s p c b = textBy (length b) s p c b
 -- the capture's lines; what the memories hold first does not matter
 unfoldable pub captureOf : List ℕ → List ℕ → List ℕ → List ℕ
 captureOf p c b = textOf freshSession p c b
-
--- a command carried out with its line written to `out`: what the function answers and leaves
-unfoldable pub actedOf : Session → List ℕ → List ℕ → List ℕ → List ℕ → ℕ → Acted × List ℕ × List ℕ
-actedOf s p c b out at =
-    let d = doneOf s p c b in
-    let w = wrote out at (d .text) in
-    (record { session = d .session; at = w .0 }, d .packet, w .1)
-
--- Laws.
-
--- a command, case by case
-module _ (s : Session) (p c b out : List ℕ) (at : ℕ) (l : Letter) (k : letterOf (getD b 0 0) ≡ l) where
-  pub acted-unknown : fits (s .phase) l ≡ false
-      → actedOf s p c b out at ≡ (record { session = inPhase s Ended; at = at }, p, out)
-  unfolding actedOf doneOf
-  acted-unknown f = rw (k, f, wrote-none out at)
-
-  module _ (f : fits (s .phase) l ≡ true) (r : Called) (q : List ℕ) (e : (r, q) ≡ callOf l (s .state) p c b) where
-    pub acted-accepted : r .refusal ≡ 0
-        → actedOf s p c b out at ≡ (record { session = afterCall l (withState s (r .state)); at = at }, q, out)
-    unfolding actedOf doneOf
-    acted-accepted z = rw (k, f, ← e, eq-eqb _ _ z, wrote-none out at)
-
-    pub acted-refused : (r .refusal ≡ 0 → ⊥) → (end : ℕ) (o : List ℕ) → (end, o) ≡ wrote out at (refusedLine (r .refusal))
-        → actedOf s p c b out at ≡ (record { session = inPhase (withState s (r .state)) Ended; at = end }, q, o)
-    unfolding actedOf doneOf
-    acted-refused z end o w = rw (k, f, ← e, ne-eqb _ _ z, ← w)

@@ -23,7 +23,7 @@ use Rattle.capture.specs.Line.{field, placeText, unitLine, idText, noteL
 use Rattle.capture.specs.Command.{letterOf, slotSize, sizeOf, whole, idsOf, configOf}
 use Rattle.capture.specs.Session.{freshSession}
 use Rattle.capture.specs.Waits.{queueWaits, cursorWaits, waitsBy}
-use Rattle.capture.specs.Capture.{callOf, afterCall, doneOf, drainedBy, drainedOf, textBy, textOf, captureOf}
+use Rattle.capture.specs.Capture.{callOf, afterCall, doneOf, eventLine, tallied, closed, drainedBy, drainedOf, textBy, textOf, captureOf}
 
 -- C with stream 0x0102, CID 2, n ids, the first of them 17, and R = 16
 abbrev start : ℕ → List ℕ
@@ -67,5 +67,5 @@ captures : Captures
 unfolding be tab allBelow countBelow lastBelow dataBytes within used unused modeGood slotsOf modesGood decodeOf firstFrom lookupOf
     unheard lostOf before twiceBelow twice freshState startRefusal startOf frameBusy frameOf lossOf lostFrameOf shortBy refusalOf
     slotOf lostSlotOf nextOf digits decimal field refusedLine endLine letterOf slotSize sizeOf whole idsOf configOf freshSession queueWaits cursorWaits waitsBy
-    left callOf afterCall doneOf drainedBy drainedOf textBy textOf captureOf
+    left callOf afterCall doneOf eventLine tallied closed drainedBy drainedOf textBy textOf captureOf
 captures = (refl, refl, refl, refl, refl, refl, refl, refl, refl, refl)

@@ -6,5 +6,6 @@ pub mod Command
 pub mod Session
 pub mod Waits
 pub mod Capture
+pub mod Steps
 pub mod Examples
 pub mod Worked

@@ -5,11 +5,25 @@ use Rattle.receiver.specs.declared.state.State.{State}
 use Rattle.receiver.specs.Start.{freshState, blankConfig}
 use Rattle.capture.specs.declared.session.Phase.{Phase}
 use Rattle.capture.specs.declared.session.Phase.the-variants.{Before, Reading, Ended}
+use Rattle.capture.specs.declared.session.Tally.{Tally}
 use Rattle.capture.specs.declared.session.Session.{Session}
 
 -- one more; counts have 64 bits
 abbrev pub more : ℕ → ℕ
 more n = (n + 1) % 2 ^ 64
+
+-- another frame, a slot, another unit, another note
+abbrev pub inFrame : Tally → Tally
+inFrame t = record { frames = more (t .frames); slot = 0; units = t .units; notes = t .notes }
+
+abbrev pub inSlot : ℕ → Tally → Tally
+inSlot n t = record { frames = t .frames; slot = n; units = t .units; notes = t .notes }
+
+abbrev pub withUnit : Tally → Tally
+withUnit t = record { frames = t .frames; slot = t .slot; units = more (t .units); notes = t .notes }
+
+abbrev pub withNote : Tally → Tally
+withNote t = record { frames = t .frames; slot = t .slot; units = t .units; notes = more (t .notes) }
 
 abbrev pub isReading : Phase → Bool
 isReading Before = false
@@ -25,43 +39,20 @@ isEnded Ended = true
 abbrev pub busy : Session → Bool
 busy s = isReading (s .phase) && s .state .owed
 
-abbrev pub withState : Session → State → Session
-withState s st =
-    record { phase = s .phase; state = st; frames = s .frames; slot = s .slot; units = s .units; notes = s .notes }
-
 abbrev pub inPhase : Session → Phase → Session
-inPhase s p = record { phase = p; state = s .state; frames = s .frames; slot = s .slot; units = s .units; notes = s .notes }
+inPhase s p = record { phase = p; state = s .state; tally = s .tally }
 
--- another frame
-abbrev pub inFrame : Session → Session
-inFrame s =
-    record { phase = s .phase; state = s .state; frames = more (s .frames); slot = 0; units = s .units; notes = s .notes }
+abbrev pub withState : Session → State → Session
+withState s st = record { phase = s .phase; state = st; tally = s .tally }
 
-abbrev pub inSlot : Session → ℕ → Session
-inSlot s n = record { phase = s .phase; state = s .state; frames = s .frames; slot = n; units = s .units; notes = s .notes }
-
-abbrev pub withUnit : Session → Session
-withUnit s =
-    record {
-      phase = s .phase;
-      state = s .state;
-      frames = s .frames;
-      slot = s .slot;
-      units = more (s .units);
-      notes = s .notes;
-    }
-
-abbrev pub withNote : Session → Session
-withNote s =
-    record {
-      phase = s .phase;
-      state = s .state;
-      frames = s .frames;
-      slot = s .slot;
-      units = s .units;
-      notes = more (s .notes);
-    }
+abbrev pub withTally : Session → Tally → Session
+withTally s t = record { phase = s .phase; state = s .state; tally = t }
 
 -- nothing read
 unfoldable pub freshSession : Session
-freshSession = record { phase = Before; state = freshState blankConfig; frames = 0; slot = 0; units = 0; notes = 0 }
+freshSession =
+    record {
+      phase = Before;
+      state = freshState blankConfig;
+      tally = record { frames = 0; slot = 0; units = 0; notes = 0 };
+    }

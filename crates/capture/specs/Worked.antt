@@ -35,7 +35,7 @@ use Rattle.capture.specs.Line.{field, placeText, carriedText, unitLine, 
 use Rattle.capture.specs.Command.{letterOf, slotSize, sizeOf, whole, idsOf, configOf}
 use Rattle.capture.specs.Session.{freshSession}
 use Rattle.capture.specs.Waits.{queueWaits, cursorWaits, waitsBy}
-use Rattle.capture.specs.Capture.{callOf, afterCall, doneOf, drainedBy, drainedOf, textBy, textOf, captureOf}
+use Rattle.capture.specs.Capture.{callOf, afterCall, doneOf, eventLine, tallied, closed, drainedBy, drainedOf, textBy, textOf, captureOf}
 
 abbrev repeated : ℕ → List ℕ → List ℕ
 repeated zero xs = []
@@ -81,5 +81,5 @@ unfolding be pasted partOf tab allBelow countBelow lastBelow dataBytes within us
     takenFrom turnOf advancedOf slotAdvanced tailAdvanced left before twiceBelow twice freshState startRefusal startOf frameBusy
     frameOf lossOf lostFrameOf shortBy refusalOf counted wrongLength slotOf lostSlotOf packetOf readOn readAll nextOf digits decimal
     field placeText carriedText unitLine idText noteLine refusedLine endLine letterOf slotSize sizeOf whole idsOf configOf freshSession queueWaits
-    cursorWaits waitsBy callOf afterCall doneOf drainedBy drainedOf textBy textOf captureOf
+    cursorWaits waitsBy callOf afterCall doneOf eventLine tallied closed drainedBy drainedOf textBy textOf captureOf
 worked = refl

@@ -3,13 +3,16 @@ ghost use mathlib.Core.Path.{_≡_};
 ghost use Prim.Native.Nat.{_+_, _≤_, _<_};
 ghost use lib.ListN.{length};
 ghost use Rattle.capture.specs.Command.{sizeBy, sizeOf};
-ghost use Rattle.capture.specs.Capture.{fits, callOf, afterCall, actedOf};
+ghost use Rattle.capture.specs.Capture.{fits, callOf, afterCall};
+ghost use Rattle.capture.specs.Steps.{actedOf};
 use crate::command::Letter;
 use crate::command::config;
 use crate::command::letter_of;
 use crate::line::put_refused;
 use crate::session::Phase;
+use crate::session::Progress;
 use crate::session::Session;
+use crate::session::Tally;
 use receiver::answer::Called;
 use receiver::state::State;
 
@@ -63,12 +66,14 @@ fn call(letter: Letter, st: State, packet: &mut [u8], collecting: &[u8], b: &[u8
 fn next_frame(session: Session) -> Session
     ensures { λ r. ⌜ r ≡ afterCall Letter.Frame session ⌝ }
 {
-    let frames = std::num::wrapping_add_u64(session.frames, 1);
-    Session {
+    let before = session.tally;
+    let frames = std::num::wrapping_add_u64(before.frames, 1);
+    let tally = Tally {
         frames,
         slot: 0,
-        ..session
-    }
+        ..before
+    };
+    Session { tally, ..session }
 }
 
 // The slot that was due.
@@ -78,7 +83,9 @@ fn next_slot(session: Session) -> Session
     let state = session.state;
     let frame = state.frame;
     let slot = frame.at as u64;
-    Session { slot, ..session }
+    let before = session.tally;
+    let tally = Tally { slot, ..before };
+    Session { tally, ..session }
 }
 
 fn after_call(letter: Letter, session: Session) -> Session
@@ -97,12 +104,6 @@ fn after_call(letter: Letter, session: Session) -> Session
     }
 }
 
-// The session, and the place behind what was written.
-pub struct Acted {
-    pub session: Session,
-    pub at: usize,
-}
-
 // Carries out a whole command; a refusal or an unknown command ends the session.
 pub fn act(
     session: Session,
@@ -111,7 +112,7 @@ pub fn act(
     b: &[u8],
     out: &mut [u8],
     at: usize,
-) -> Acted
+) -> Progress
     requires { ⌜ (1 ≤ length (now b)) × (sizeOf (now b) ≤ length (now b)) × (at + 29 ≤ length (now out)) ⌝ }
     ensures { λ r. ⌜ (r, now (packet .exit), now (out .exit))
         ≡ actedOf session (now (packet .entry)) (now (collecting .entry)) (now (b .entry)) (now (out .entry)) at ⌝ }
@@ -123,7 +124,7 @@ pub fn act(
             phase: Phase::Ended,
             ..session
         };
-        return Acted { session: ended, at };
+        return Progress { session: ended, at };
     }
     let st = session.state;
     let called = call(letter, st, packet, collecting, b);
@@ -131,12 +132,12 @@ pub fn act(
     let next = Session { state, ..session };
     if called.refusal == 0 {
         let session = after_call(letter, next);
-        return Acted { session, at };
+        return Progress { session, at };
     }
     let end = put_refused(out, at, called.refusal);
     let session = Session {
         phase: Phase::Ended,
         ..next
     };
-    Acted { session, at: end }
+    Progress { session, at: end }
 }

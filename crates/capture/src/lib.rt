@@ -3,4 +3,5 @@ pub mod act;
 pub mod command;
 pub mod decimal;
 pub mod line;
+pub mod pour;
 pub mod session;

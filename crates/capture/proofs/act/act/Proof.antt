@@ -2,7 +2,7 @@
 use mathlib.Core.Path.{sym, _∙_}
 use borrow.Author.Tests.{not-true, not-false}
 use Rattle.capture.specs.Command.{size-by}
-use Rattle.capture.specs.Capture.{acted-unknown, acted-accepted, acted-refused}
+use Rattle.capture.specs.Steps.{acted-unknown, acted-accepted, acted-refused}
 use borrow.Author.Needs.{needs}
 use Rattle.capture.proofs.act.act.Statement.{statement}
 use Rattle.capture.proofs.act.act.Tie as tie
@@ -29,9 +29,9 @@ is-fit-requires c κs = search needs
 -- src/act.rt:126:9
 returns : tie.Need-returns
 returns c =
-    let f = c .before .before in
+    let f = c .before .before .before in
     sym (acted-unknown _ _ _ _ _ _ _ (sym (f .before .letter-of .ensures))
-    (sym (f .is-fit .ensures) ∙ not-true _ (c .before .if1 .taken)))
+    (sym (f .is-fit .ensures) ∙ not-true _ (c .before .before .if1 .taken)))
 
 -- src/act.rt:129:9
 call-requires : tie.Need-call-requires
@@ -51,7 +51,7 @@ same-length c = search needs
 -- src/act.rt:134:9
 returns-2 : tie.Need-returns-2
 returns-2 c =
-    let k = c .before .before .before .before .before .before in
+    let k = c .before .before .before .before .before .before .before in
     let f = k .before .before .before .before in
     rw (c .after-call .ensures)
     (sym (acted-accepted _ _ _ _ _ _ _ (sym (f .before .letter-of .ensures))
@@ -59,7 +59,7 @@ returns-2 c =
 
 -- src/act.rt:136:9
 put-refused-requires : tie.Need-put-refused-requires
-put-refused-requires c κs = c .before .before .before .before .before .before .before .before .before .before .before .before .before .before .before .before .before .pre .2
+put-refused-requires c κs = c .before .before .before .before .before .before .before .before .before .before .before .before .before .before .before .before .before .before .pre .2
 
 -- src/act.rt:107:1
 same-length-2 : tie.Need-same-length-2
@@ -72,8 +72,8 @@ same-length-3 c = search needs
 -- src/act.rt:107:1
 returns-3 : tie.Need-returns-3
 returns-3 c =
-    let w = c .before .before .before in
-    let k = w .before .before .before .before .before .before .before in
+    let w = c .before .before .before .before in
+    let k = w .before .before .before .before .before .before .before .before in
     let f = k .before .before .before .before in
     sym (acted-refused _ _ _ _ _ _ _ (sym (f .before .letter-of .ensures))
     (sym (f .is-fit .ensures) ∙ not-false _ (k .before .before .before .if1 .left)) _ _ (k .call .ensures)

@@ -51,7 +51,7 @@ enum-told-6 c = search needs
 -- src/act.rt:86:1
 returns : tie.Need-returns
 unfolding afterCall
-returns c = rw (c .before .enum-told .given .1)
+returns c = rw (c .before .before .enum-told .given .1)
 
 -- src/act.rt:86:1
 returns-2 : tie.Need-returns-2
