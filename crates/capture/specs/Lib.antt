@@ -7,5 +7,6 @@ pub mod Session
 pub mod Waits
 pub mod Capture
 pub mod Steps
+pub mod Feed
 pub mod Examples
 pub mod Worked

@@ -16,7 +16,7 @@ use Rattle.receiver.specs.declared.answer.Called.{Called}
 use Rattle.receiver.specs.declared.state.State.{State}
 use Rattle.receiver.specs.Slot.{shortBy}
 use Rattle.receiver.specs.State.{withOwed}
-use Rattle.receiver.specs.Next.{Out, past, readAll, nextOf, next-reads}
+use Rattle.receiver.specs.Next.{Out, past, readAll, nextOf, next-short, next-reads}
 use Rattle.receiver.specs.ReadOn.{read-event, read-done}
 use Rattle.capture.specs.declared.command.Letter.{Letter}
 use Rattle.capture.specs.declared.session.Phase.the-variants.{Ended}
@@ -136,6 +136,20 @@ module _ (s : Session) (p c out : List ℕ) (at : ℕ) where
   pub pour-next : (busy s && roomy (length out) at) ≡ true → (o : Out) → nextOf (s .state) p c ≡ o
       → pouredOf s p c out at ≡ pourBy (o .0 .event) (withState s (o .0 .state)) (o .1) out at (λ t d o a. pouredOf t p d o a)
   pour-next h o e = pour-step ∙ rw (h, e)
+
+-- nothing is owed, there is no room, or the memories are too short for next
+module _ (s : Session) (p c out : List ℕ) (at : ℕ) where
+  pub pour-idle : busy s ≡ false → pouredOf s p c out at ≡ pouredAt s c (at, out)
+  pour-idle h = pour-stops s p c out at (rw h)
+
+  module _ (h : busy s ≡ true) where
+    pub pour-full : roomy (length out) at ≡ false → pouredOf s p c out at ≡ pouredAt s c (at, out)
+    pour-full r = pour-stops s p c out at (rw (h, r))
+
+    pub pour-short : roomy (length out) at ≡ true → shortBy (s .state .config) (length p) (length c) ≡ true → (r : ℕ) (o : List ℕ)
+        → (r, o) ≡ wrote out at (refusedLine 22) → pouredOf s p c out at ≡ pouredAt (inPhase s Ended) c (r, o)
+    unfolding eventLine tallied closed
+    pour-short r e n o w = pour-next s p c out at (rw (h, r)) _ (next-short (s .state) p c e) ∙ rw (← w)
 
 -- one turn of reading on at a time
 module _ (s : Session) (p c out : List ℕ) (at : ℕ) (d : Drains s (length p) (length c)) (room : roomy (length out) at ≡ true) where

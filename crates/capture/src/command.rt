@@ -31,7 +31,7 @@ pub fn letter_of(b: u8) -> Letter
 
 // How many bytes S has, as far as its first bytes tell.
 fn slot_size(b: &[u8]) -> usize
-    ensures { λ r. ⌜ r ≡ slotSize (now (b .entry)) ⌝ }
+    ensures { λ r. ⌜ (r ≡ slotSize (now (b .entry))) × (r ≤ 65538) ⌝ }
 {
     if b.len() < 3 {
         return 3;
@@ -41,7 +41,7 @@ fn slot_size(b: &[u8]) -> usize
 
 // How many bytes the command has, as far as its first bytes tell; 0 where it is unknown.
 pub fn size(b: &[u8]) -> usize
-    ensures { λ r. ⌜ r ≡ sizeOf (now (b .entry)) ⌝ }
+    ensures { λ r. ⌜ (r ≡ sizeOf (now (b .entry))) × (r ≤ 65538) ⌝ }
 {
     if b.len() == 0 {
         return 0;

@@ -2,6 +2,7 @@
 pub mod act;
 pub mod command;
 pub mod decimal;
+pub mod feed;
 pub mod line;
 pub mod pour;
 pub mod session;

@@ -190,3 +190,36 @@ fn drain(
     };
     Progress { session, at: place }
 }
+
+// Calls next until nothing waits or there is no room, and writes its lines.
+pub fn pour(
+    session: Session,
+    packet: &[u8],
+    collecting: &mut [u8],
+    out: &mut [u8],
+    at: usize,
+) -> Progress
+    ensures { λ r. ⌜ (r, now (collecting .exit), now (out .exit))
+        ≡ pouredOf session (now (packet .entry)) (now (collecting .entry)) (now (out .entry)) at ⌝ }
+{
+    if !is_busy(session) {
+        return Progress { session, at };
+    }
+    if !has_room(out.len(), at) {
+        return Progress { session, at };
+    }
+    let state = session.state;
+    let config = state.config;
+    if receiver::slot::is_short(config, packet.len(), collecting.len()) {
+        let end = put_refused(out, at, 22);
+        let ended = Session {
+            phase: Phase::Ended,
+            ..session
+        };
+        return Progress {
+            session: ended,
+            at: end,
+        };
+    }
+    drain(session, packet, collecting, out, at)
+}

@@ -1,5 +1,6 @@
 -- Why `size` meets its contract: by the letter.
 use mathlib.Core.Path.{sym, _∙_}
+use native.Mathlib.Omega.{arith}
 use Rattle.capture.specs.Command.{size-none, size-by}
 use borrow.Author.Needs.{needs}
 use Rattle.capture.proofs.command.size.Statement.{statement}
@@ -11,7 +12,7 @@ use Rattle.capture.proofs.command.slot_size.Reads as slot-size-reads
 
 -- src/command.rt:47:9
 returns : tie.Need-returns
-returns c = sym (size-none _ (c .if1 .taken))
+returns c = (sym (size-none _ (c .if1 .taken)), omega arith)
 
 -- src/command.rt:49:28
 shared-slice-read-letter-of : tie.Need-shared-slice-read-letter-of
@@ -51,28 +52,29 @@ enum-told-6 c = search needs
 
 -- src/command.rt:43:1
 returns-2 : tie.Need-returns-2
-returns-2 c = sym (size-by _ _ (sym (c .before .before .letter-of .ensures) ∙ c .enum-told .given .1))
+returns-2 c = (sym (size-by _ _ (sym (c .before .before .letter-of .ensures) ∙ c .enum-told .given .1)), omega arith)
 
 -- src/command.rt:43:1
 returns-3 : tie.Need-returns-3
-returns-3 c = sym (size-by _ _ (sym (c .before .before .letter-of .ensures) ∙ c .enum-told2 .given .1))
+returns-3 c = (sym (size-by _ _ (sym (c .before .before .letter-of .ensures) ∙ c .enum-told2 .given .1)), omega arith)
 
 -- src/command.rt:43:1
 returns-4 : tie.Need-returns-4
-returns-4 c = sym (size-by _ _ (sym (c .before .before .letter-of .ensures) ∙ c .enum-told3 .given .1))
+returns-4 c = (sym (size-by _ _ (sym (c .before .before .letter-of .ensures) ∙ c .enum-told3 .given .1)), omega arith)
 
 -- src/command.rt:43:1
 returns-5 : tie.Need-returns-5
 returns-5 c =
-    c .slot-size .ensures ∙ sym (size-by _ _ (sym (c .before .before .before .letter-of .ensures) ∙ c .before .enum-told4 .given .1))
+    let e = sym (c .before .before .before .letter-of .ensures) ∙ c .before .enum-told4 .given .1 in
+    (c .slot-size .ensures .0 ∙ sym (size-by _ _ e), c .slot-size .ensures .1)
 
 -- src/command.rt:43:1
 returns-6 : tie.Need-returns-6
-returns-6 c = sym (size-by _ _ (sym (c .before .before .letter-of .ensures) ∙ c .enum-told5 .given .1))
+returns-6 c = (sym (size-by _ _ (sym (c .before .before .letter-of .ensures) ∙ c .enum-told5 .given .1)), omega arith)
 
 -- src/command.rt:43:1
 returns-7 : tie.Need-returns-7
-returns-7 c = sym (size-by _ _ (sym (c .before .before .letter-of .ensures) ∙ c .enum-told6 .given .1))
+returns-7 c = (sym (size-by _ _ (sym (c .before .before .letter-of .ensures) ∙ c .enum-told6 .given .1)), omega arith)
 
 pub size-spec : {M : Type 1} → statement M
 size-spec =

@@ -1,5 +1,6 @@
 -- Why `slot_size` meets its contract: the length is there, or not yet.
 use mathlib.Core.Path.{sym}
+use native.Mathlib.Omega.{arith}
 use Rattle.capture.specs.Command.{slot-size-short, slot-size-known}
 use borrow.Author.Needs.{needs}
 use Rattle.capture.proofs.command.slot_size.Statement.{statement}
@@ -10,7 +11,7 @@ use Rattle.wire.proofs.field.read16.Reads as read16-reads
 
 -- src/command.rt:37:9
 returns : tie.Need-returns
-returns c = sym (slot-size-short _ (c .if1 .taken))
+returns c = (sym (slot-size-short _ (c .if1 .taken)), omega arith)
 
 -- src/command.rt:39:9
 read16-requires : tie.Need-read16-requires
@@ -26,7 +27,8 @@ add-result c = search needs
 
 -- src/command.rt:33:1
 returns-2 : tie.Need-returns-2
-returns-2 c = rw (c .read16 .ensures) (sym (slot-size-known _ (c .before .if1 .left)))
+returns-2 c =
+    (rw (c .read16 .ensures) (sym (slot-size-known _ (c .before .if1 .left))), omega arith)
 
 pub slot-size-spec : {M : Type 1} → statement M
 slot-size-spec = tie.close (tie.spec returns read16-requires cast-result add-result returns-2)
