@@ -66,8 +66,8 @@ pub length-field : (n end : ℕ) → length (field n end) ≡ length (decimal n)
 unfolding field
 length-field n end = rw length-append
 
-pub field-21 : (n end : ℕ) → n < 18446744073709551616 → length (field n end) ≤ 21
-field-21 n end h = rw (length-field n end) (omega (arith, decimal-20 n h))
+pub field-21 : (n end : ℕ) → length (field n end) ≤ 21
+field-21 n end = rw (length-field n end) (omega (arith, decimal-20 n))
 
 -- a note without an id, and one with it
 pub id-none : (n id : ℕ) → n ≤ 51 → idText n id ≡ 45 ∷ newline ∷ []

@@ -22,12 +22,13 @@ use Rattle.capture.specs.declared.command.Letter.{Letter}
 use Rattle.capture.specs.declared.session.Phase.the-variants.{Ended}
 use Rattle.capture.specs.declared.session.Progress.{Progress}
 use Rattle.capture.specs.declared.session.Session.{Session}
+use Rattle.capture.specs.declared.session.Tally.{Tally}
 use Rattle.capture.specs.Text.{wrote, wrote-none}
 use Rattle.capture.specs.Line.{refusedLine}
 use Rattle.capture.specs.Command.{letterOf}
 use Rattle.capture.specs.Session.{isReading, busy, inPhase, withState, withTally}
 use Rattle.capture.specs.Waits.{waits, isLine, next-falls}
-use Rattle.capture.specs.Capture.{fits, callOf, afterCall, doneOf, eventLine, tallied, closed}
+use Rattle.capture.specs.Capture.{fits, callOf, afterCall, doneOf, eventLine, tallied, closed, lastLine}
 
 -- a command carried out with its line written to `out`: what the function answers and leaves
 unfoldable pub actedOf : Session → List ℕ → List ℕ → List ℕ → List ℕ → ℕ → Progress × List ℕ × List ℕ
@@ -70,6 +71,10 @@ pouredBy (suc f) s p c out at =
 
 unfoldable pub pouredOf : Session → List ℕ → List ℕ → List ℕ → ℕ → Poured
 pouredOf s p c out at = pouredBy (suc (waits (s .state) p)) s p c out at
+
+-- the last line, where there is room for it
+unfoldable pub finishedOf : Tally → List ℕ → ℕ → ℕ × List ℕ
+finishedOf t out at = cond (roomy (length out) at) (wrote out at (lastLine t)) (at, out)
 
 -- Laws.
 
@@ -188,3 +193,12 @@ pub pour-on : (s : Session) (p c out : List ℕ) (at : ℕ) (st : State) (c' : L
     → pouredOf s p c out at ≡ pouredOf (withState s st) p c' out at
 pour-on s p c out at st c' d d' room e =
     pour-read s p c out at d room _ e ∙ sym (pour-read (withState s st) p c' out at d' room _ refl)
+
+module _ (t : Tally) (out : List ℕ) (at : ℕ) where
+  pub finish-full : roomy (length out) at ≡ false → finishedOf t out at ≡ (at, out)
+  unfolding finishedOf
+  finish-full h = rw h
+
+  pub finish-line : roomy (length out) at ≡ true → finishedOf t out at ≡ wrote out at (lastLine t)
+  unfolding finishedOf
+  finish-line h = rw h

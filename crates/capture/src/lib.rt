@@ -3,6 +3,7 @@ pub mod act;
 pub mod command;
 pub mod decimal;
 pub mod feed;
+pub mod finish;
 pub mod line;
 pub mod pour;
 pub mod session;

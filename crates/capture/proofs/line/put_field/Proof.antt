@@ -19,14 +19,14 @@ room : (c : tie.After-slice-known2) → let a = c .before .before .put-decimal i
 room c =
     let a = c .before .before in
     let s = a .before .before .before in
-    let d = decimal-20 (s .args .n) (search needs) in
+    let d = decimal-20 (s .args .n) in
     let e = written-end _ _ _ _ _ (a .put-decimal .ensures) in
     let l = written-length _ _ _ _ _ (a .put-decimal .ensures) (omega (arith, s .pre)) in
     (omega (arith, s .pre), omega (arith, s .pre))
 
 -- src/line.rt:18:9
 put-decimal-requires : tie.Need-put-decimal-requires
-put-decimal-requires c κs = let s = c .before .before in omega (arith, decimal-20 (s .args .n) (search needs), s .pre)
+put-decimal-requires c κs = let s = c .before .before in omega (arith, decimal-20 (s .args .n), s .pre)
 
 -- src/line.rt:19:5
 slice-write-out : tie.Need-slice-write-out
@@ -46,7 +46,7 @@ unfolding field
 returns c =
     let a = c .before .before in
     let s = a .before .before .before in
-    let d = decimal-20 (s .args .n) (search needs) in
+    let d = decimal-20 (s .args .n) in
     let e = written-end _ _ _ _ _ (a .put-decimal .ensures) in
     (
       written-more _ _ _ _ _ (a .put-decimal .ensures) _ _ (s .args .end ∷ []) (wrote-byte _ _ _ (room c .0)) (omega (arith, s .pre)),
