@@ -289,8 +289,7 @@ gathered-some command d held block read n e k l m =
     let most = k .most in
     let h : held + min (wantedOf (heldOf command held)) (length block - read) ≤ length command = omega arith in
     let q : min (wantedOf (heldOf command held)) (length block - read) ≤ length (drop read block) =
-    rw (length-drop read block) (omega arith) in
-    (
+    rw (length-drop read block) (omega arith) in (
       omega arith,
       omega arith,
       omega arith,

@@ -155,7 +155,10 @@ fn drain(
                         ..session
                     };
                     let session = close(last, event);
-                    return Progress { session, at: behind };
+                    return Progress {
+                        session,
+                        at: behind,
+                    };
                 }
             }
             Found::Packet(start, end) => {

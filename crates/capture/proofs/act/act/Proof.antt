@@ -6,49 +6,34 @@ use Rattle.capture.specs.Steps.{acted-unknown, acted-accepted, acted-ref
 use borrow.Author.Needs.{needs}
 use Rattle.capture.proofs.act.act.Statement.{statement}
 use Rattle.capture.proofs.act.act.Tie as tie
-use Rattle.capture.proofs.act.act.Reads as reads
-use Rattle.capture.proofs.act.act.Lts as lts
-use Rattle.capture.proofs.act.after_call.Reads as after-call-reads
-use Rattle.capture.proofs.act.call.Reads as call-reads
-use Rattle.capture.proofs.act.is_fit.Reads as is-fit-reads
-use Rattle.capture.proofs.command.letter_of.Reads as letter-of-reads
-use Rattle.capture.proofs.line.put_refused.Reads as put-refused-reads
 
--- src/act.rt:119:28
 shared-slice-read-letter-of : tie.Need-shared-slice-read-letter-of
 shared-slice-read-letter-of c = search needs
 
--- src/act.rt:119:9
 letter-of-requires : tie.Need-letter-of-requires
 letter-of-requires c κs = search needs
 
--- src/act.rt:121:9
 is-fit-requires : tie.Need-is-fit-requires
 is-fit-requires c κs = search needs
 
--- src/act.rt:126:9
 returns : tie.Need-returns
 returns c =
     let f = c .before .before .before in
     sym (acted-unknown _ _ _ _ _ _ _ (sym (f .before .letter-of .ensures))
     (sym (f .is-fit .ensures) ∙ not-true _ (c .before .before .if1 .taken)))
 
--- src/act.rt:129:9
 call-requires : tie.Need-call-requires
 call-requires c κs =
     let l = c .before .before .before .before in
     let s = l .before .before .before .before .before .before in
     (s .pre .0, rw (size-by _ _ (sym (l .letter-of .ensures))) at (s .pre .1))
 
--- src/act.rt:133:13
 after-call-requires : tie.Need-after-call-requires
 after-call-requires c κs = search needs
 
--- src/act.rt:134:9
 same-length : tie.Need-same-length
 same-length c = search needs
 
--- src/act.rt:134:9
 returns-2 : tie.Need-returns-2
 returns-2 c =
     let k = c .before .before .before .before .before .before .before in
@@ -57,19 +42,15 @@ returns-2 c =
     (sym (acted-accepted _ _ _ _ _ _ _ (sym (f .before .letter-of .ensures))
     (sym (f .is-fit .ensures) ∙ not-false _ (k .before .before .before .if1 .left)) _ _ (k .call .ensures) (c .before .if2 .taken)))
 
--- src/act.rt:136:9
 put-refused-requires : tie.Need-put-refused-requires
 put-refused-requires c κs = c .before .before .before .before .before .before .before .before .before .before .before .before .before .before .before .before .before .before .pre .2
 
--- src/act.rt:107:1
 same-length-2 : tie.Need-same-length-2
 same-length-2 c = search needs
 
--- src/act.rt:107:1
 same-length-3 : tie.Need-same-length-3
 same-length-3 c = search needs
 
--- src/act.rt:107:1
 returns-3 : tie.Need-returns-3
 returns-3 c =
     let w = c .before .before .before .before in

@@ -3,77 +3,57 @@ use Rattle.capture.specs.Capture.{afterCall}
 use borrow.Author.Needs.{needs}
 use Rattle.capture.proofs.act.after_call.Statement.{statement}
 use Rattle.capture.proofs.act.after_call.Tie as tie
-use Rattle.capture.proofs.act.after_call.Reads as reads
-use Rattle.capture.proofs.act.after_call.Lts as lts
-use Rattle.capture.proofs.act.next_frame.Reads as next-frame-reads
-use Rattle.capture.proofs.act.next_slot.Reads as next-slot-reads
 
--- src/act.rt:91:20
 enum-told : tie.Need-enum-told
 enum-told c = search needs
 
--- src/act.rt:94:26
 enum-told-2 : tie.Need-enum-told-2
 enum-told-2 c = search needs
 
--- src/act.rt:94:26
 next-frame-requires : tie.Need-next-frame-requires
 next-frame-requires c κs = search needs
 
--- src/act.rt:95:30
 enum-told-3 : tie.Need-enum-told-3
 enum-told-3 c = search needs
 
--- src/act.rt:95:30
 next-frame-requires-2 : tie.Need-next-frame-requires-2
 next-frame-requires-2 c κs = search needs
 
--- src/act.rt:96:25
 enum-told-4 : tie.Need-enum-told-4
 enum-told-4 c = search needs
 
--- src/act.rt:96:25
 next-slot-requires : tie.Need-next-slot-requires
 next-slot-requires c κs = search needs
 
--- src/act.rt:97:29
 enum-told-5 : tie.Need-enum-told-5
 enum-told-5 c = search needs
 
--- src/act.rt:97:29
 next-slot-requires-2 : tie.Need-next-slot-requires-2
 next-slot-requires-2 c κs = search needs
 
--- src/act.rt:98:28
 enum-told-6 : tie.Need-enum-told-6
 enum-told-6 c = search needs
 
--- src/act.rt:86:1
 returns : tie.Need-returns
 unfolding afterCall
 returns c = rw (c .before .before .enum-told .given .1)
 
--- src/act.rt:86:1
 returns-2 : tie.Need-returns-2
 unfolding afterCall
 returns-2 c = rw (c .before .enum-told2 .given .1) (c .next-frame .ensures)
 
--- src/act.rt:86:1
 returns-3 : tie.Need-returns-3
 unfolding afterCall
 returns-3 c = rw (c .before .enum-told3 .given .1) (c .next-frame2 .ensures)
 
--- src/act.rt:86:1
 returns-4 : tie.Need-returns-4
 unfolding afterCall
 returns-4 c = rw (c .before .enum-told4 .given .1) (c .next-slot .ensures)
 
--- src/act.rt:86:1
 returns-5 : tie.Need-returns-5
 unfolding afterCall
 returns-5 c = rw (c .before .enum-told5 .given .1) (c .next-slot2 .ensures)
 
--- src/act.rt:86:1
 returns-6 : tie.Need-returns-6
 unfolding afterCall
 returns-6 c = rw (c .enum-told6 .given .1)

@@ -11,115 +11,84 @@ use Rattle.capture.specs.Capture.{callOf}
 use borrow.Author.Needs.{needs}
 use Rattle.capture.proofs.act.call.Statement.{statement}
 use Rattle.capture.proofs.act.call.Tie as tie
-use Rattle.capture.proofs.act.call.Reads as reads
-use Rattle.capture.proofs.act.call.Lts as lts
-use Rattle.capture.proofs.command.config.Reads as config-reads
-use Rattle.receiver.proofs.frame.frame.Reads as frame-reads
-use Rattle.receiver.proofs.frame.lost_frame.Reads as lost-frame-reads
-use Rattle.receiver.proofs.slot.lost_slot.Reads as lost-slot-reads
-use Rattle.receiver.proofs.slot.slot.Reads as slot-reads
-use Rattle.receiver.proofs.start.start.Reads as start-reads
 
 -- what stands from a place on
 rest : (b : List ℕ) (n : ℕ) → take (length b - n) (drop n b) ≡ drop n b
 rest b n = take-all (length b - n) (drop n b) (rw (length-drop n b) (omega arith))
 
--- src/act.rt:50:17
 enum-told : tie.Need-enum-told
 enum-told c = search needs
 
--- src/act.rt:50:17
 config-requires : tie.Need-config-requires
 config-requires c κs = rw (c .enum-told .given .1) at (c .before .before .before .before .before .pre .1)
 
--- src/act.rt:51:13
 start-requires : tie.Need-start-requires
 start-requires c κs = search needs
 
--- src/act.rt:53:53
 enum-told-2 : tie.Need-enum-told-2
 enum-told-2 c = search needs
 
--- src/act.rt:53:53
 sub-frame : tie.Need-sub-frame
 sub-frame c = search needs
 
--- src/act.rt:53:53
 part-frame-start : tie.Need-part-frame-start
 part-frame-start c = search needs
 
--- src/act.rt:53:53
 part-frame-end : tie.Need-part-frame-end
 part-frame-end c = search needs
 
--- src/act.rt:53:26
 frame-requires : tie.Need-frame-requires
 frame-requires c κs = search needs
 
--- src/act.rt:54:30
 enum-told-3 : tie.Need-enum-told-3
 enum-told-3 c = search needs
 
--- src/act.rt:54:30
 lost-frame-requires : tie.Need-lost-frame-requires
 lost-frame-requires c κs = search needs
 
--- src/act.rt:55:50
 enum-told-4 : tie.Need-enum-told-4
 enum-told-4 c = search needs
 
--- src/act.rt:55:70
 sub-slot : tie.Need-sub-slot
 sub-slot c = slot-size-long _ (rw (c .before .enum-told4 .given .1) at (c .before .before .before .before .before .before .pre .1))
 
--- src/act.rt:55:70
 part-slot-start : tie.Need-part-slot-start
 part-slot-start c = slot-size-long _ (rw (c .before .enum-told4 .given .1) at (c .before .before .before .before .before .before .pre .1))
 
--- src/act.rt:55:70
 part-slot-end : tie.Need-part-slot-end
 part-slot-end c = search needs
 
--- src/act.rt:55:25
 slot-requires : tie.Need-slot-requires
 slot-requires c κs = search needs
 
--- src/act.rt:56:59
 enum-told-5 : tie.Need-enum-told-5
 enum-told-5 c = search needs
 
--- src/act.rt:56:29
 lost-slot-requires : tie.Need-lost-slot-requires
 lost-slot-requires c κs = search needs
 
--- src/act.rt:57:28
 enum-told-6 : tie.Need-enum-told-6
 enum-told-6 c = search needs
 
--- src/act.rt:44:1
 returns : tie.Need-returns
 unfolding callOf
 returns c =
     let e = c .start .ensures ∙ ap startOf (c .before .config .ensures) in
     rw (c .before .before .enum-told .given .1, e)
 
--- src/act.rt:44:1
 returns-2 : tie.Need-returns-2
 unfolding callOf
 returns-2 c =
     let b = c .before .before .before .before .before .before .before .args .b .now in
     rw (c .before .before .enum-told2 .given .1, c .frame .ensures, rest b 1)
 
--- src/act.rt:44:1
 returns-3 : tie.Need-returns-3
 unfolding callOf
 returns-3 c = rw (c .before .enum-told3 .given .1, c .lost-frame .ensures)
 
--- src/act.rt:44:1
 same-length : tie.Need-same-length
 same-length c = search needs
 
--- src/act.rt:44:1
 returns-4 : tie.Need-returns-4
 unfolding callOf
 returns-4 c =
@@ -127,16 +96,13 @@ returns-4 c =
     let b = s .before .before .before .before .before .before .before .before .args .b .now in
     rw (s .before .before .before .enum-told4 .given .1) (rw (rest b 3) at (s .slot .ensures))
 
--- src/act.rt:44:1
 same-length-2 : tie.Need-same-length-2
 same-length-2 c = search needs
 
--- src/act.rt:44:1
 returns-5 : tie.Need-returns-5
 unfolding callOf
 returns-5 c = rw (c .before .before .enum-told5 .given .1, c .lost-slot .ensures)
 
--- src/act.rt:44:1
 returns-6 : tie.Need-returns-6
 unfolding callOf
 returns-6 c = rw (c .enum-told6 .given .1)

@@ -3,10 +3,7 @@ use mathlib.Core.Path.{refl}
 use Rattle.capture.specs.Capture.{afterCall}
 use Rattle.capture.proofs.act.next_slot.Statement.{statement}
 use Rattle.capture.proofs.act.next_slot.Tie as tie
-use Rattle.capture.proofs.act.next_slot.Reads as reads
-use Rattle.capture.proofs.act.next_slot.Lts as lts
 
--- src/act.rt:77:1
 returns : tie.Need-returns
 unfolding afterCall
 returns c = refl

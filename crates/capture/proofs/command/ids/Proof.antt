@@ -8,9 +8,6 @@ use Rattle.tmcc.specs.Count.{tab, tab-turn, tab-filled}
 use Rattle.capture.specs.Command.{idsOf}
 use Rattle.capture.proofs.command.ids.Statement.{statement}
 use Rattle.capture.proofs.command.ids.Tie as tie
-use Rattle.capture.proofs.command.ids.Reads as reads
-use Rattle.capture.proofs.command.ids.Lts as lts
-use Rattle.wire.proofs.field.read16.Reads as read16-reads
 
 abbrev Inv-loop : tie.InvT-loop
 Inv-loop b ids₀ i₀ ids i = (i ≤ 16) × (length ids ≡ 16) × (take i ids ≡ tab (λ k. be 2 b (6 + 2 * k)) i)
@@ -18,40 +15,31 @@ Inv-loop b ids₀ i₀ ids i = (i ≤ 16) × (length ids ≡ 16) × (take i ids 
 abbrev μ-loop : tie.MeasureT-loop
 μ-loop b ids₀ i₀ ids i = 16 - i
 
--- src/command.rt:67:5
 loop-holds : tie.Need-loop-holds Inv-loop μ-loop
 unfolding tab
 loop-holds c = (omega arith, refl, refl)
 
--- src/command.rt:68:39
 mul-read16 : tie.Need-mul-read16 Inv-loop μ-loop
 mul-read16 c = omega arith
 
--- src/command.rt:68:35
 add-read16 : tie.Need-add-read16 Inv-loop μ-loop
 add-read16 c = omega arith
 
--- src/command.rt:68:18
 read16-requires : tie.Need-read16-requires Inv-loop μ-loop
 read16-requires c κs = omega arith
 
--- src/command.rt:68:9
 mul-ids : tie.Need-mul-ids Inv-loop μ-loop
 mul-ids c = omega arith
 
--- src/command.rt:68:9
 array-write-ids : tie.Need-array-write-ids Inv-loop μ-loop
 array-write-ids c = omega arith
 
--- src/command.rt:69:9
 add-i : tie.Need-add-i Inv-loop μ-loop
 add-i c = omega arith
 
--- src/command.rt:67:5
 loop-less : tie.Need-loop-less Inv-loop μ-loop
 loop-less c = omega arith
 
--- src/command.rt:67:5
 loop-again : tie.Need-loop-again Inv-loop μ-loop
 loop-again c =
     let l = c .before .before .loop in (
@@ -60,7 +48,6 @@ loop-again c =
       tab-turn _ _ _ _ (omega arith) (l .inv .2) (c .read16 .ensures),
     )
 
--- src/command.rt:61:1
 returns : tie.Need-returns Inv-loop μ-loop
 unfolding idsOf
 returns c =

@@ -5,27 +5,19 @@ use Rattle.capture.specs.Command.{slot-size-short, slot-size-known}
 use borrow.Author.Needs.{needs}
 use Rattle.capture.proofs.command.slot_size.Statement.{statement}
 use Rattle.capture.proofs.command.slot_size.Tie as tie
-use Rattle.capture.proofs.command.slot_size.Reads as reads
-use Rattle.capture.proofs.command.slot_size.Lts as lts
-use Rattle.wire.proofs.field.read16.Reads as read16-reads
 
--- src/command.rt:37:9
 returns : tie.Need-returns
 returns c = (sym (slot-size-short _ (c .if1 .taken)), omega arith)
 
--- src/command.rt:39:9
 read16-requires : tie.Need-read16-requires
 read16-requires c κs = search needs
 
--- src/command.rt:39:9
 cast-result : tie.Need-cast-result
 cast-result c = search needs
 
--- src/command.rt:39:5
 add-result : tie.Need-add-result
 add-result c = search needs
 
--- src/command.rt:33:1
 returns-2 : tie.Need-returns-2
 returns-2 c =
     (rw (c .read16 .ensures) (sym (slot-size-known _ (c .before .if1 .left))), omega arith)

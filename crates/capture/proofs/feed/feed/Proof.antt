@@ -12,12 +12,6 @@ use Rattle.capture.specs.declared.session.Session.{Session}
 use Rattle.capture.specs.Feed.{World, Keeps, goesBy, goes-room, goes-read, gathered-some, turn-by, fedFrom, fed-turn, fed-stops, fed-short, fed-long}
 use Rattle.capture.proofs.feed.feed.Statement.{statement}
 use Rattle.capture.proofs.feed.feed.Tie as tie
-use Rattle.capture.proofs.feed.feed.Reads as reads
-use Rattle.capture.proofs.feed.feed.Lts as lts
-use Rattle.capture.proofs.feed.gather.Reads as gather-reads
-use Rattle.capture.proofs.feed.goes_on.Reads as goes-on-reads
-use Rattle.capture.proofs.feed.keep.Reads as keep-reads
-use Rattle.capture.proofs.feed.run.Reads as run-reads
 
 abbrev world : Session → ℕ → List ℕ → ℕ → List ℕ → List ℕ → List ℕ → ℕ → World
 world s held command read p c out written =
@@ -57,41 +51,32 @@ took g =
     let l = g .before .before .before .before in
     gathered-some _ _ _ _ _ _ (g .gather .ensures) (l .loop .inv .1) (goes-read _ _ _ _ _ (goes g)) (l .loop .inv .3)
 
--- src/feed.rt:136:9
 returns : tie.Need-returns Inv-loop μ-loop
 returns c = sym (fed-short _ _ _ _ _ _ _ (c .if1 .taken))
 
--- src/feed.rt:144:9
 keep-requires : tie.Need-keep-requires Inv-loop μ-loop
 keep-requires c κs = search needs
 
--- src/feed.rt:147:5
 loop-holds : tie.Need-loop-holds Inv-loop μ-loop
 loop-holds c = (refl, c .keep .ensures .1, omega arith, c .before .before .if1 .left, refl, refl, refl, refl)
 
--- src/feed.rt:147:11
 goes-on-requires : tie.Need-goes-on-requires Inv-loop μ-loop
 goes-on-requires c κs = search needs
 
--- src/feed.rt:148:13
 gather-requires : tie.Need-gather-requires Inv-loop μ-loop
 gather-requires c κs = let l = c .before .before .before .loop .inv in (l .1, l .3, l .2)
 
--- src/feed.rt:149:19
 add-end : tie.Need-add-end Inv-loop μ-loop
 add-end c = record { fits = omega (arith, took (c .before .before) .1) }
 
--- src/feed.rt:150:29
 slice-reshare-prefix-run : tie.Need-slice-reshare-prefix-run Inv-loop μ-loop
 slice-reshare-prefix-run c = omega (arith, took (c .before .before) .1, took (c .before .before) .3, c .before .before .before .before .before .before .loop .inv .3)
 
--- src/feed.rt:150:29
 slice-aggregate-run : tie.Need-slice-aggregate-run Inv-loop μ-loop
 slice-aggregate-run c =
     let t = took (c .before .before .before) in
     sym (length-take-le _ _ (omega (arith, t .1, t .3, c .before .before .before .before .before .before .before .loop .inv .3)))
 
--- src/feed.rt:150:13
 run-requires : tie.Need-run-requires Inv-loop μ-loop
 run-requires c κs =
     let g = c .before .before .before .before .before .before in
@@ -100,32 +85,27 @@ run-requires c κs =
     let h = leb-true (l .loop .written + 152) (length (l .loop .out)) (goes-room _ _ _ _ _ (goes g)) in
     (rw length-take (omega (arith, t .0, t .1, t .3, l .loop .inv .3)), h)
 
--- src/feed.rt:153:9
 keep-requires-2 : tie.Need-keep-requires-2 Inv-loop μ-loop
 keep-requires-2 c κs = search needs
 
--- src/feed.rt:154:9
 add-read : tie.Need-add-read Inv-loop μ-loop
 add-read c =
     let g = c .before .before .before .before .before .before .before .before .before .before .before .before .before .before .before .before in
     record { fits = omega (arith, took g .2, g .before .before .before .before .before .before .before .before .before .before .before .before .before .good .1 .1 .1 .0) }
 
--- src/feed.rt:147:5
 loop-less : tie.Need-loop-less Inv-loop μ-loop
 loop-less c =
     let g = c .before .before .before .before .before .before .before .before .before .before .before .before .before .before .before .before in
     omega (arith, took g .0, took g .2)
 
--- src/feed.rt:147:5
 loop-again : tie.Need-loop-again Inv-loop μ-loop
 loop-again c =
     let r = c .before .before .before .before .before .before .before .before .before in
     let g = r .before .before .before .before .before .before .before in
     let l = g .before .before .before .before .loop in
-    let t = took g in
-    (
+    let t = took g in (
       ap (fedFrom _) (sym (turn-by _ _ _ _ (g .gather .ensures) _ _ _ _ (r .run .ensures) _ (c .keep2 .ensures .0)))
-      ∙ sym (fed-turn _ _ (l .inv .1 .some) (goes g)) ∙ l .inv .0,
+          ∙ sym (fed-turn _ _ (l .inv .1 .some) (goes g)) ∙ l .inv .0,
       c .keep2 .ensures .1,
       t .2,
       omega (arith, t .3, l .inv .3),
@@ -135,23 +115,18 @@ loop-again c =
       r .run .kept .1 .1 .1 .1 .0 ∙ l .inv .7,
     )
 
--- src/feed.rt:122:1
 same-length : tie.Need-same-length Inv-loop μ-loop
 same-length c = c .before .before .loop .inv .4
 
--- src/feed.rt:122:1
 same-length-2 : tie.Need-same-length-2 Inv-loop μ-loop
 same-length-2 c = c .before .before .loop .inv .5
 
--- src/feed.rt:122:1
 same-length-3 : tie.Need-same-length-3 Inv-loop μ-loop
 same-length-3 c = c .before .before .loop .inv .6
 
--- src/feed.rt:122:1
 same-length-4 : tie.Need-same-length-4 Inv-loop μ-loop
 same-length-4 c = c .before .before .loop .inv .7
 
--- src/feed.rt:122:1
 returns-2 : tie.Need-returns-2 Inv-loop μ-loop
 returns-2 c =
     let l = c .before .before in

@@ -6,57 +6,40 @@ use Rattle.capture.specs.Feed.{gathered-by}
 use borrow.Author.Needs.{needs}
 use Rattle.capture.proofs.feed.gather.Statement.{statement}
 use Rattle.capture.proofs.feed.gather.Tie as tie
-use Rattle.capture.proofs.feed.gather.Reads as reads
-use Rattle.capture.proofs.feed.gather.Lts as lts
-use Rattle.capture.proofs.feed.smaller.Reads as smaller-reads
-use Rattle.capture.proofs.feed.wanted.Reads as wanted-reads
-use Rattle.wire.proofs.memory.copy_at.Reads as copy-at-reads
 
--- src/feed.rt:71:23
 slice-reshare-prefix-wanted : tie.Need-slice-reshare-prefix-wanted
 slice-reshare-prefix-wanted c = search needs
 
--- src/feed.rt:71:23
 slice-aggregate-wanted : tie.Need-slice-aggregate-wanted
 slice-aggregate-wanted c = sym (length-take-le _ _ (omega (arith, c .before .before .before .pre .0 .most)))
 
--- src/feed.rt:71:9
 wanted-requires : tie.Need-wanted-requires
 wanted-requires c κs = search needs
 
--- src/feed.rt:72:27
 sub-smaller : tie.Need-sub-smaller
 sub-smaller c = search needs
 
--- src/feed.rt:72:9
 smaller-requires : tie.Need-smaller-requires
 smaller-requires c κs = search needs
 
--- src/feed.rt:73:15
 add-end : tie.Need-add-end
 add-end c = search needs
 
--- src/feed.rt:74:42
 sub-copy-at : tie.Need-sub-copy-at
 sub-copy-at c = search needs
 
--- src/feed.rt:74:42
 part-copy-at-start : tie.Need-part-copy-at-start
 part-copy-at-start c = search needs
 
--- src/feed.rt:74:42
 part-copy-at-end : tie.Need-part-copy-at-end
 part-copy-at-end c = search needs
 
--- src/feed.rt:74:5
 copy-at-requires : tie.Need-copy-at-requires
 copy-at-requires c κs = search needs
 
--- src/feed.rt:67:1
 same-length : tie.Need-same-length
 same-length c = search needs
 
--- src/feed.rt:67:1
 returns : tie.Need-returns
 returns c =
     let w = c .before .before in

@@ -5,31 +5,22 @@ use borrow.Author.Tests.{lt-ltb, le-ltb, not-true, not-false}
 use borrow.Author.Needs.{needs}
 use Rattle.capture.proofs.feed.goes_on.Statement.{statement}
 use Rattle.capture.proofs.feed.goes_on.Tie as tie
-use Rattle.capture.proofs.feed.goes_on.Reads as reads
-use Rattle.capture.proofs.feed.goes_on.Lts as lts
-use Rattle.capture.proofs.pour.has_room.Reads as has-room-reads
-use Rattle.capture.proofs.pour.is_busy.Reads as is-busy-reads
 
--- src/feed.rt:105:9
 returns : tie.Need-returns
 unfolding goesBy
 returns c = rw (le-ltb _ _ (c .if1 .taken))
 
--- src/feed.rt:107:9
 has-room-requires : tie.Need-has-room-requires
 has-room-requires c κs = search needs
 
--- src/feed.rt:108:9
 returns-2 : tie.Need-returns-2
 unfolding goesBy
 returns-2 c =
     rw (lt-ltb _ _ (c .before .before .if1 .left), sym (c .before .has-room .ensures) ∙ not-true _ (c .if2 .taken))
 
--- src/feed.rt:110:8
 is-busy-requires : tie.Need-is-busy-requires
 is-busy-requires c κs = search needs
 
--- src/feed.rt:111:9
 returns-3 : tie.Need-returns-3
 unfolding goesBy
 returns-3 c =
@@ -40,19 +31,15 @@ returns-3 c =
       sym (c .before .is-busy .ensures) ∙ c .if3 .taken,
     )
 
--- src/feed.rt:115:26
 enum-told : tie.Need-enum-told
 enum-told c = search needs
 
--- src/feed.rt:116:27
 enum-told-2 : tie.Need-enum-told-2
 enum-told-2 c = search needs
 
--- src/feed.rt:117:25
 enum-told-3 : tie.Need-enum-told-3
 enum-told-3 c = search needs
 
--- src/feed.rt:101:1
 returns-4 : tie.Need-returns-4
 unfolding goesBy
 returns-4 c =
@@ -65,7 +52,6 @@ returns-4 c =
       c .enum-told .given .1,
     )
 
--- src/feed.rt:101:1
 returns-5 : tie.Need-returns-5
 unfolding goesBy
 returns-5 c =
@@ -78,7 +64,6 @@ returns-5 c =
       c .enum-told2 .given .1,
     )
 
--- src/feed.rt:101:1
 returns-6 : tie.Need-returns-6
 unfolding goesBy
 returns-6 c =

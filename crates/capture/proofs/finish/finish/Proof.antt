@@ -8,20 +8,13 @@ use Rattle.capture.specs.Steps.{finish-full, finish-line}
 use borrow.Author.Needs.{needs}
 use Rattle.capture.proofs.finish.finish.Statement.{statement}
 use Rattle.capture.proofs.finish.finish.Tie as tie
-use Rattle.capture.proofs.finish.finish.Reads as reads
-use Rattle.capture.proofs.finish.finish.Lts as lts
-use Rattle.capture.proofs.line.put_end.Reads as put-end-reads
-use Rattle.capture.proofs.pour.has_room.Reads as has-room-reads
 
--- src/finish.rt:43:9
 has-room-requires : tie.Need-has-room-requires
 has-room-requires c κs = search needs
 
--- src/finish.rt:44:9
 returns : tie.Need-returns
 returns c = sym (finish-full _ _ _ (sym (c .before .has-room .ensures) ∙ not-true _ (c .if1 .taken)))
 
--- src/finish.rt:46:5
 put-end-requires : tie.Need-put-end-requires
 put-end-requires c κs =
     let r = c .before in
@@ -29,11 +22,9 @@ put-end-requires c κs =
     let l = leb-true (s .args .at + 152) (length (s .args .out .now)) (sym (r .before .has-room .ensures) ∙ not-false _ (r .if1 .left)) in
     omega arith
 
--- src/finish.rt:40:1
 same-length : tie.Need-same-length
 same-length c = search needs
 
--- src/finish.rt:40:1
 returns-2 : tie.Need-returns-2
 returns-2 c =
     let w = c .before .before in

@@ -5,36 +5,25 @@ use Rattle.capture.specs.Line.{endLine}
 use Rattle.capture.specs.Text.{put-more}
 use Rattle.capture.proofs.line.put_end.Statement.{statement}
 use Rattle.capture.proofs.line.put_end.Tie as tie
-use Rattle.capture.proofs.line.put_end.Reads as reads
-use Rattle.capture.proofs.line.put_end.Lts as lts
-use Rattle.capture.proofs.line.put_field.Reads as put-field-reads
-use Rattle.capture.proofs.line.put_word.Reads as put-word-reads
 
--- src/line.rt:98:35
 slice-aggregate-put-word : tie.Need-slice-aggregate-put-word
 slice-aggregate-put-word c = search needs
 
--- src/line.rt:98:9
 put-word-requires : tie.Need-put-word-requires
 put-word-requires c κs = search needs
 
--- src/line.rt:99:9
 put-field-requires : tie.Need-put-field-requires
 put-field-requires c κs = search needs
 
--- src/line.rt:100:9
 put-field-requires-2 : tie.Need-put-field-requires-2
 put-field-requires-2 c κs = search needs
 
--- src/line.rt:101:5
 put-field-requires-3 : tie.Need-put-field-requires-3
 put-field-requires-3 c κs = search needs
 
--- src/line.rt:94:1
 same-length : tie.Need-same-length
 same-length c = search needs
 
--- src/line.rt:94:1
 returns : tie.Need-returns
 unfolding endLine
 returns c =

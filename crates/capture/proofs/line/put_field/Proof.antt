@@ -9,9 +9,6 @@ use Rattle.capture.specs.Text.{wrote-byte, written-end, written-length, 
 use borrow.Author.Needs.{needs}
 use Rattle.capture.proofs.line.put_field.Statement.{statement}
 use Rattle.capture.proofs.line.put_field.Tie as tie
-use Rattle.capture.proofs.line.put_field.Reads as reads
-use Rattle.capture.proofs.line.put_field.Lts as lts
-use Rattle.capture.proofs.decimal.put_decimal.Reads as put-decimal-reads
 
 -- there is room for the character behind it
 room : (c : tie.After-slice-known2) → let a = c .before .before .put-decimal in
@@ -24,31 +21,25 @@ room c =
     let l = written-length _ _ _ _ _ (a .put-decimal .ensures) (omega (arith, s .pre)) in
     (omega (arith, s .pre), omega (arith, s .pre))
 
--- src/line.rt:18:9
 put-decimal-requires : tie.Need-put-decimal-requires
 put-decimal-requires c κs = let s = c .before .before in omega (arith, decimal-20 (s .args .n), s .pre)
 
--- src/line.rt:19:5
 slice-write-out : tie.Need-slice-write-out
 slice-write-out c = room c .0
 
--- src/line.rt:20:5
 add-result : tie.Need-add-result
 add-result c = record { fits = omega (arith, room c .0) }
 
--- src/line.rt:14:1
 same-length : tie.Need-same-length
 same-length c = search needs
 
--- src/line.rt:14:1
 returns : tie.Need-returns
 unfolding field
 returns c =
     let a = c .before .before in
     let s = a .before .before .before in
     let d = decimal-20 (s .args .n) in
-    let e = written-end _ _ _ _ _ (a .put-decimal .ensures) in
-    (
+    let e = written-end _ _ _ _ _ (a .put-decimal .ensures) in (
       written-more _ _ _ _ _ (a .put-decimal .ensures) _ _ (s .args .end ∷ []) (wrote-byte _ _ _ (room c .0)) (omega (arith, s .pre)),
       omega arith,
     )

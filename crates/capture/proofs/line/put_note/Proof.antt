@@ -5,38 +5,25 @@ use Rattle.capture.specs.Line.{noteLine}
 use Rattle.capture.specs.Text.{put-more}
 use Rattle.capture.proofs.line.put_note.Statement.{statement}
 use Rattle.capture.proofs.line.put_note.Tie as tie
-use Rattle.capture.proofs.line.put_note.Reads as reads
-use Rattle.capture.proofs.line.put_note.Lts as lts
-use Rattle.capture.proofs.line.put_field.Reads as put-field-reads
-use Rattle.capture.proofs.line.put_id.Reads as put-id-reads
-use Rattle.capture.proofs.line.put_place.Reads as put-place-reads
-use Rattle.capture.proofs.line.put_word.Reads as put-word-reads
 
--- src/line.rt:80:9
 put-place-requires : tie.Need-put-place-requires
 put-place-requires c κs = search needs
 
--- src/line.rt:81:38
 slice-aggregate-put-word : tie.Need-slice-aggregate-put-word
 slice-aggregate-put-word c = search needs
 
--- src/line.rt:81:9
 put-word-requires : tie.Need-put-word-requires
 put-word-requires c κs = search needs
 
--- src/line.rt:82:9
 put-field-requires : tie.Need-put-field-requires
 put-field-requires c κs = search needs
 
--- src/line.rt:83:5
 put-id-requires : tie.Need-put-id-requires
 put-id-requires c κs = search needs
 
--- src/line.rt:76:1
 same-length : tie.Need-same-length
 same-length c = search needs
 
--- src/line.rt:76:1
 returns : tie.Need-returns
 unfolding noteLine
 returns c =

@@ -5,23 +5,16 @@ use Rattle.capture.specs.Line.{placeText}
 use Rattle.capture.specs.Text.{put-more}
 use Rattle.capture.proofs.line.put_place.Statement.{statement}
 use Rattle.capture.proofs.line.put_place.Tie as tie
-use Rattle.capture.proofs.line.put_place.Reads as reads
-use Rattle.capture.proofs.line.put_place.Lts as lts
-use Rattle.capture.proofs.line.put_field.Reads as put-field-reads
 
--- src/line.rt:37:9
 put-field-requires : tie.Need-put-field-requires
 put-field-requires c κs = search needs
 
--- src/line.rt:38:5
 put-field-requires-2 : tie.Need-put-field-requires-2
 put-field-requires-2 c κs = search needs
 
--- src/line.rt:33:1
 same-length : tie.Need-same-length
 same-length c = search needs
 
--- src/line.rt:33:1
 returns : tie.Need-returns
 unfolding placeText
 returns c =

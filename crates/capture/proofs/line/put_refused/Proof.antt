@@ -5,28 +5,19 @@ use Rattle.capture.specs.Line.{refusedLine}
 use Rattle.capture.specs.Text.{put-more}
 use Rattle.capture.proofs.line.put_refused.Statement.{statement}
 use Rattle.capture.proofs.line.put_refused.Tie as tie
-use Rattle.capture.proofs.line.put_refused.Reads as reads
-use Rattle.capture.proofs.line.put_refused.Lts as lts
-use Rattle.capture.proofs.line.put_field.Reads as put-field-reads
-use Rattle.capture.proofs.line.put_word.Reads as put-word-reads
 
--- src/line.rt:90:36
 slice-aggregate-put-word : tie.Need-slice-aggregate-put-word
 slice-aggregate-put-word c = search needs
 
--- src/line.rt:90:9
 put-word-requires : tie.Need-put-word-requires
 put-word-requires c κs = search needs
 
--- src/line.rt:91:5
 put-field-requires : tie.Need-put-field-requires
 put-field-requires c κs = search needs
 
--- src/line.rt:86:1
 same-length : tie.Need-same-length
 same-length c = search needs
 
--- src/line.rt:86:1
 returns : tie.Need-returns
 unfolding refusedLine
 returns c =

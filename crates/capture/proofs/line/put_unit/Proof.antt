@@ -5,38 +5,25 @@ use Rattle.capture.specs.Line.{unitLine}
 use Rattle.capture.specs.Text.{put-more}
 use Rattle.capture.proofs.line.put_unit.Statement.{statement}
 use Rattle.capture.proofs.line.put_unit.Tie as tie
-use Rattle.capture.proofs.line.put_unit.Reads as reads
-use Rattle.capture.proofs.line.put_unit.Lts as lts
-use Rattle.capture.proofs.line.put_carried.Reads as put-carried-reads
-use Rattle.capture.proofs.line.put_field.Reads as put-field-reads
-use Rattle.capture.proofs.line.put_place.Reads as put-place-reads
-use Rattle.capture.proofs.line.put_word.Reads as put-word-reads
 
--- src/line.rt:57:9
 put-place-requires : tie.Need-put-place-requires
 put-place-requires c κs = search needs
 
--- src/line.rt:58:39
 slice-aggregate-put-word : tie.Need-slice-aggregate-put-word
 slice-aggregate-put-word c = search needs
 
--- src/line.rt:58:9
 put-word-requires : tie.Need-put-word-requires
 put-word-requires c κs = search needs
 
--- src/line.rt:60:9
 put-carried-requires : tie.Need-put-carried-requires
 put-carried-requires c κs = search needs
 
--- src/line.rt:62:5
 put-field-requires : tie.Need-put-field-requires
 put-field-requires c κs = search needs
 
--- src/line.rt:53:1
 same-length : tie.Need-same-length
 same-length c = search needs
 
--- src/line.rt:53:1
 returns : tie.Need-returns
 unfolding unitLine
 returns c =

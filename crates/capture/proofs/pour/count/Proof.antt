@@ -3,50 +3,37 @@ use Rattle.capture.specs.Capture.{tallied}
 use borrow.Author.Needs.{needs}
 use Rattle.capture.proofs.pour.count.Statement.{statement}
 use Rattle.capture.proofs.pour.count.Tie as tie
-use Rattle.capture.proofs.pour.count.Reads as reads
-use Rattle.capture.proofs.pour.count.Lts as lts
-use Rattle.std.proofs.num.wrapping_add_u64.Reads as wrapping-add-u64-reads
 
--- src/pour.rt:70:27
 enum-told : tie.Need-enum-told
 enum-told c = search needs
 
--- src/pour.rt:72:20
 enum-told-2 : tie.Need-enum-told-2
 enum-told-2 c = search needs
 
--- src/pour.rt:72:20
 wrapping-add-u64-requires : tie.Need-wrapping-add-u64-requires
 wrapping-add-u64-requires c κs = search needs
 
--- src/pour.rt:76:20
 enum-told-3 : tie.Need-enum-told-3
 enum-told-3 c = search needs
 
--- src/pour.rt:76:20
 wrapping-add-u64-requires-2 : tie.Need-wrapping-add-u64-requires-2
 wrapping-add-u64-requires-2 c κs = search needs
 
--- src/pour.rt:79:30
 enum-told-4 : tie.Need-enum-told-4
 enum-told-4 c = search needs
 
--- src/pour.rt:66:1
 returns : tie.Need-returns
 unfolding tallied
 returns c = rw (c .enum-told .given .1)
 
--- src/pour.rt:66:1
 returns-2 : tie.Need-returns-2
 unfolding tallied
 returns-2 c = rw (c .before .enum-told2 .given .1, c .wrapping-add-u64 .ensures)
 
--- src/pour.rt:66:1
 returns-3 : tie.Need-returns-3
 unfolding tallied
 returns-3 c = rw (c .before .enum-told3 .given .1, c .wrapping-add-u642 .ensures)
 
--- src/pour.rt:66:1
 returns-4 : tie.Need-returns-4
 unfolding tallied
 returns-4 c = rw (c .enum-told4 .given .1)

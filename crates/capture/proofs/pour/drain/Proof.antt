@@ -20,18 +20,6 @@ use Rattle.capture.specs.Waits.{waits, turn-falls}
 use Rattle.capture.specs.Steps.{roomy, Drains, pouredOf, pour-line, pour-last, pour-done, pour-on, pour-stops}
 use Rattle.capture.proofs.pour.drain.Statement.{statement}
 use Rattle.capture.proofs.pour.drain.Tie as tie
-use Rattle.capture.proofs.pour.drain.Reads as reads
-use Rattle.capture.proofs.pour.drain.Lts as lts
-use Rattle.capture.proofs.pour.close.Reads as close-reads
-use Rattle.capture.proofs.pour.count.Reads as count-reads
-use Rattle.capture.proofs.pour.has_room.Reads as has-room-reads
-use Rattle.capture.proofs.pour.hold.Reads as hold-reads
-use Rattle.capture.proofs.pour.is_line.Reads as is-line-reads
-use Rattle.capture.proofs.pour.put_event.Reads as put-event-reads
-use Rattle.delivery.proofs.cursor.find.Reads as find-reads
-use Rattle.delivery.proofs.packet.arrive.Reads as arrive-reads
-use Rattle.delivery.proofs.packet.place.Reads as place-reads
-use Rattle.delivery.proofs.packet.receive.Reads as receive-reads
 
 -- the session in a turn
 abbrev on : Session → State → Tally → Session
@@ -61,47 +49,36 @@ fits d =
     let l = d .before .before .before .before .before .before .before .before .before .before .before in
     arrived-fits _ _ _ _ _ _ (sym (d .arrive .ensures)) (rw (l .loop .inv .2) at (short-room _ _ _ (l .loop .inv .1 .long)))
 
--- src/pour.rt:136:5
 loop-holds : tie.Need-loop-holds Inv-loop μ-loop
 loop-holds c = (refl, c .before .before .before .before .before .before .pre, refl, refl, refl)
 
--- src/pour.rt:136:11
 has-room-requires : tie.Need-has-room-requires Inv-loop μ-loop
 has-room-requires c κs = search needs
 
--- src/pour.rt:139:13
 find-requires : tie.Need-find-requires Inv-loop μ-loop
 find-requires c κs = search needs
 
--- src/pour.rt:146:26
 enum-known-found : tie.Need-enum-known-found Inv-loop μ-loop
 enum-known-found c = search needs
 
--- src/pour.rt:147:21
 put-event-requires : tie.Need-put-event-requires Inv-loop μ-loop
 put-event-requires c κs = leb-true _ _ (room (c .before .before .before .before .before .before .before .before .before))
 
--- src/pour.rt:149:21
 count-requires : tie.Need-count-requires Inv-loop μ-loop
 count-requires c κs = search needs
 
--- src/pour.rt:151:21
 is-line-requires : tie.Need-is-line-requires Inv-loop μ-loop
 is-line-requires c κs = search needs
 
--- src/pour.rt:157:25
 close-requires : tie.Need-close-requires Inv-loop μ-loop
 close-requires c κs = search needs
 
--- src/pour.rt:158:21
 same-length : tie.Need-same-length Inv-loop μ-loop
 same-length c = c .before .before .before .before .before .before .before .before .before .before .before .before .before .before .before .before .before .before .loop .inv .3
 
--- src/pour.rt:158:21
 same-length-2 : tie.Need-same-length-2 Inv-loop μ-loop
 same-length-2 c = c .before .before .before .before .before .before .put-event .kept .0 ∙ c .before .before .before .before .before .before .before .before .before .before .before .before .before .before .before .before .before .before .loop .inv .4
 
--- src/pour.rt:158:21
 returns : tie.Need-returns Inv-loop μ-loop
 returns c =
     let w = c .before .before .before .before .before .before in
@@ -112,7 +89,6 @@ returns c =
     (sym (pour-last _ _ _ _ _ (l .inv .1) (room (d .before .before .before)) _ f _ _ (w .put-event .ensures .0)
     (sym (c .before .before .is-line .ensures) ∙ not-true _ (c .before .if2 .taken))) ∙ l .inv .0)
 
--- src/pour.rt:136:5
 loop-less : tie.Need-loop-less Inv-loop μ-loop
 loop-less c =
     let w = c .before .before .before .before .before in
@@ -121,7 +97,6 @@ loop-less c =
     let f = rw (d .find .ensures) at (w .before .before .before .found .given .1) in
     rw (d .find .ensures) (turn-falls (l .next .queue) (l .next .cursor) _ .0 (rw f))
 
--- src/pour.rt:136:5
 loop-again : tie.Need-loop-again Inv-loop μ-loop
 loop-again c =
     let w = c .before .before .before .before .before in
@@ -137,39 +112,30 @@ loop-again c =
       w .put-event .kept .0 ∙ l .inv .4,
     )
 
--- src/pour.rt:161:27
 enum-known-found-2 : tie.Need-enum-known-found-2 Inv-loop μ-loop
 enum-known-found-2 c = search needs
 
--- src/pour.rt:162:21
 arrive-requires : tie.Need-arrive-requires Inv-loop μ-loop
 arrive-requires c κs = search needs
 
--- src/pour.rt:163:21
 place-requires : tie.Need-place-requires Inv-loop μ-loop
 place-requires c κs = search needs
 
--- src/pour.rt:164:31
 mul-channel : tie.Need-mul-channel Inv-loop μ-loop
 mul-channel c = record { fits = omega (arith, below c) }
 
--- src/pour.rt:164:31
 element-copy-out-channel : tie.Need-element-copy-out-channel Inv-loop μ-loop
 element-copy-out-channel c = below c
 
--- src/pour.rt:165:21
 receive-requires : tie.Need-receive-requires Inv-loop μ-loop
 receive-requires c κs = fits (c .before .before .before)
 
--- src/pour.rt:169:17
 mul-after : tie.Need-mul-after Inv-loop μ-loop
 mul-after c = record { fits = omega (arith, below (c .before .before .before .before .before .before .before)) }
 
--- src/pour.rt:169:17
 element-set-from-after : tie.Need-element-set-from-after Inv-loop μ-loop
 element-set-from-after c = below (c .before .before .before .before .before .before .before)
 
--- src/pour.rt:136:5
 loop-less-2 : tie.Need-loop-less-2 Inv-loop μ-loop
 loop-less-2 c =
     let d = c .before .before .before .before .before .before .before .before .before .before .before .before .before .before in
@@ -177,7 +143,6 @@ loop-less-2 c =
     let f = rw (d .find .ensures) at (c .before .before .before .before .before .before .before .before .before .before .found2 .given .1) in
     rw (d .find .ensures) (turn-falls (l .next .queue) (l .next .cursor) _ .1 (rw f) _)
 
--- src/pour.rt:136:5
 loop-again-2 : tie.Need-loop-again-2 Inv-loop μ-loop
 unfolding unheard
 loop-again-2 c =
@@ -188,8 +153,7 @@ loop-again-2 c =
     let l = d .before .before .before .before .before .loop in
     let e = rw (d .find .ensures) at (a .before .before .found2 .given .1) in
     let z : length (x .last .1 .1 .1 .1 .0) ≡ length (l .collecting) =
-    ap (λ (y : JoinedPacket × List ℕ). length (y .1)) (x .ensures) ∙ length-received _ _ _ _ _ _ (fits a) in
-    (
+    ap (λ (y : JoinedPacket × List ℕ). length (y .1)) (x .ensures) ∙ length-received _ _ _ _ _ _ (fits a) in (
       rw (d .find .ensures, k .ensures)
           (sym (pour-on _ _ _ _ _ _ _ (l .inv .1) (record { owed = l .inv .1 .owed; long = rw z (l .inv .1 .long) }) (room (d .before .before .before))
           (read-received (l .next) _ (l .collecting) _ _ (a .arrive .result) _ _ e
@@ -202,15 +166,12 @@ loop-again-2 c =
       l .inv .4,
     )
 
--- src/pour.rt:171:25
 enum-known-found-3 : tie.Need-enum-known-found-3 Inv-loop μ-loop
 enum-known-found-3 c = search needs
 
--- src/pour.rt:172:21
 hold-requires : tie.Need-hold-requires Inv-loop μ-loop
 hold-requires c κs = search needs
 
--- src/pour.rt:136:5
 loop-less-3 : tie.Need-loop-less-3 Inv-loop μ-loop
 loop-less-3 c =
     let d = c .before .before .before .before .before .before in
@@ -218,13 +179,11 @@ loop-less-3 c =
     let f = rw (d .find .ensures) at (c .before .before .found3 .given .1) in
     rw (d .find .ensures) (turn-falls (l .next .queue) (l .next .cursor) _ .1 (rw f) _)
 
--- src/pour.rt:136:5
 loop-again-3 : tie.Need-loop-again-3 Inv-loop μ-loop
 loop-again-3 c =
     let d = c .before .before .before .before .before .before in
     let l = d .before .before .before .before .before .loop in
-    let e = rw (d .find .ensures) at (c .before .before .found3 .given .1) in
-    (
+    let e = rw (d .find .ensures) at (c .before .before .found3 .given .1) in (
       rw (c .hold .ensures, d .find .ensures)
           (sym (pour-on _ _ _ _ _ _ _ (l .inv .1) (record { owed = l .inv .1 .owed; long = l .inv .1 .long }) (room (d .before .before .before)) (read-tail (l .next) _ (l .collecting) _ _ e)) ∙ l .inv .0),
       record { owed = l .inv .1 .owed; long = l .inv .1 .long },
@@ -233,19 +192,15 @@ loop-again-3 c =
       l .inv .4,
     )
 
--- src/pour.rt:176:17
 enum-told : tie.Need-enum-told Inv-loop μ-loop
 enum-told c = search needs
 
--- src/pour.rt:182:17
 same-length-3 : tie.Need-same-length-3 Inv-loop μ-loop
 same-length-3 c = search needs
 
--- src/pour.rt:182:17
 same-length-4 : tie.Need-same-length-4 Inv-loop μ-loop
 same-length-4 c = search needs
 
--- src/pour.rt:182:17
 returns-2 : tie.Need-returns-2 Inv-loop μ-loop
 returns-2 c =
     let d = c .before .before .before .before in
@@ -253,15 +208,12 @@ returns-2 c =
     let e = rw (d .find .ensures) at (c .enum-told .given .1) in
     rw (d .find .ensures) (sym (pour-done _ _ _ _ _ (l .inv .1) (room (d .before .before .before)) e) ∙ l .inv .0)
 
--- src/pour.rt:121:1
 same-length-5 : tie.Need-same-length-5 Inv-loop μ-loop
 same-length-5 c = search needs
 
--- src/pour.rt:121:1
 same-length-6 : tie.Need-same-length-6 Inv-loop μ-loop
 same-length-6 c = search needs
 
--- src/pour.rt:121:1
 returns-3 : tie.Need-returns-3 Inv-loop μ-loop
 returns-3 c =
     let l = c .before .before .loop in

@@ -8,8 +8,6 @@ use lib.Dec.{leb}
 use Rattle.capture.specs.Steps.{roomy}
 use Rattle.capture.proofs.pour.has_room.Statement.{statement}
 use Rattle.capture.proofs.pour.has_room.Tie as tie
-use Rattle.capture.proofs.pour.has_room.Reads as reads
-use Rattle.capture.proofs.pour.has_room.Lts as lts
 
 moved : (size at : ℕ) → 152 ≤ size → leb at (size - 152) ≡ roomy size at
 moved size at h = go (leb at (size - 152)) refl
@@ -18,11 +16,9 @@ moved size at h = go (leb at (size - 152)) refl
     go true e = sym (le-leb (at + 152) size (omega (arith, leb-true at (size - 152) e)))
     go false e = sym (lt-leb (at + 152) size (omega (arith, leb-false at (size - 152) e)))
 
--- src/pour.rt:25:9
 returns : tie.Need-returns
 returns c = sym (lt-leb (c .before .args .at + 152) (c .before .args .size) (omega arith))
 
--- src/pour.rt:21:1
 returns-2 : tie.Need-returns-2
 returns-2 c = moved (c .before .args .size) (c .before .args .at) (c .if1 .left)
 

@@ -8,38 +8,25 @@ use Rattle.capture.specs.Steps.{pour-idle, pour-full, pour-short}
 use borrow.Author.Needs.{needs}
 use Rattle.capture.proofs.pour.pour.Statement.{statement}
 use Rattle.capture.proofs.pour.pour.Tie as tie
-use Rattle.capture.proofs.pour.pour.Reads as reads
-use Rattle.capture.proofs.pour.pour.Lts as lts
-use Rattle.capture.proofs.line.put_refused.Reads as put-refused-reads
-use Rattle.capture.proofs.pour.drain.Reads as drain-reads
-use Rattle.capture.proofs.pour.has_room.Reads as has-room-reads
-use Rattle.capture.proofs.pour.is_busy.Reads as is-busy-reads
-use Rattle.receiver.proofs.slot.is_short.Reads as is-short-reads
 
--- src/pour.rt:205:9
 is-busy-requires : tie.Need-is-busy-requires
 is-busy-requires c κs = search needs
 
--- src/pour.rt:206:9
 returns : tie.Need-returns
 returns c = sym (pour-idle _ _ _ _ _ (sym (c .before .is-busy .ensures) ∙ not-true _ (c .if1 .taken)))
 
--- src/pour.rt:208:9
 has-room-requires : tie.Need-has-room-requires
 has-room-requires c κs = search needs
 
--- src/pour.rt:209:9
 returns-2 : tie.Need-returns-2
 returns-2 c =
     let b = c .before .before in
     sym (pour-full _ _ _ _ _ (sym (b .before .is-busy .ensures) ∙ not-false _ (b .if1 .left))
     (sym (c .before .has-room .ensures) ∙ not-true _ (c .if2 .taken)))
 
--- src/pour.rt:213:8
 is-short-requires : tie.Need-is-short-requires
 is-short-requires c κs = search needs
 
--- src/pour.rt:214:13
 put-refused-requires : tie.Need-put-refused-requires
 put-refused-requires c κs =
     let r = c .before .before .before .before .before in
@@ -47,11 +34,9 @@ put-refused-requires c κs =
     let l = leb-true (s .args .at + 152) (length (s .args .out .now)) (sym (r .before .has-room .ensures) ∙ not-false _ (r .if2 .left)) in
     omega arith
 
--- src/pour.rt:219:9
 same-length : tie.Need-same-length
 same-length c = search needs
 
--- src/pour.rt:219:9
 returns-3 : tie.Need-returns-3
 returns-3 c =
     let w = c .before .before .before .before in
@@ -62,7 +47,6 @@ returns-3 c =
     (sym (r .before .has-room .ensures) ∙ not-false _ (r .if2 .left)) (sym (f .before .is-short .ensures) ∙ f .if3 .taken) _ _
     (w .put-refused .ensures .0))
 
--- src/pour.rt:224:5
 drain-requires : tie.Need-drain-requires
 drain-requires c κs =
     let f = c .before .before in
@@ -72,15 +56,12 @@ drain-requires c κs =
       long = sym (f .before .is-short .ensures) ∙ f .if3 .left;
     }
 
--- src/pour.rt:195:1
 same-length-2 : tie.Need-same-length-2
 same-length-2 c = search needs
 
--- src/pour.rt:195:1
 same-length-3 : tie.Need-same-length-3
 same-length-3 c = search needs
 
--- src/pour.rt:195:1
 returns-4 : tie.Need-returns-4
 returns-4 c = search needs
 

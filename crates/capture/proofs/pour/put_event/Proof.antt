@@ -6,72 +6,53 @@ use Rattle.capture.specs.Capture.{eventLine}
 use borrow.Author.Needs.{needs}
 use Rattle.capture.proofs.pour.put_event.Statement.{statement}
 use Rattle.capture.proofs.pour.put_event.Tie as tie
-use Rattle.capture.proofs.pour.put_event.Reads as reads
-use Rattle.capture.proofs.pour.put_event.Lts as lts
-use Rattle.capture.proofs.line.put_note.Reads as put-note-reads
-use Rattle.capture.proofs.line.put_refused.Reads as put-refused-reads
-use Rattle.capture.proofs.line.put_unit.Reads as put-unit-reads
 
--- src/pour.rt:59:27
 enum-told : tie.Need-enum-told
 enum-told c = search needs
 
--- src/pour.rt:60:21
 enum-known-event : tie.Need-enum-known-event
 enum-known-event c = search needs
 
--- src/pour.rt:60:34
 put-note-requires : tie.Need-put-note-requires
 put-note-requires c κs = search needs
 
--- src/pour.rt:61:21
 enum-known-event-2 : tie.Need-enum-known-event-2
 enum-known-event-2 c = search needs
 
--- src/pour.rt:61:31
 put-unit-requires : tie.Need-put-unit-requires
 put-unit-requires c κs = search needs
 
--- src/pour.rt:62:24
 enum-known-event-3 : tie.Need-enum-known-event-3
 enum-known-event-3 c = search needs
 
--- src/pour.rt:62:30
 put-refused-requires : tie.Need-put-refused-requires
 put-refused-requires c κs = search needs
 
--- src/pour.rt:54:1
 returns : tie.Need-returns
 unfolding eventLine
 returns c = rw (c .enum-told .given .1) (sym (wrote-none _ _), omega arith)
 
--- src/pour.rt:54:1
 same-length : tie.Need-same-length
 same-length c = search needs
 
--- src/pour.rt:54:1
 returns-2 : tie.Need-returns-2
 unfolding eventLine
 returns-2 c =
     let a = c .before .before in
     rw (a .before .before .before .event .given .1) (a .put-note .ensures .0, omega (arith, a .put-note .ensures .1))
 
--- src/pour.rt:54:1
 same-length-2 : tie.Need-same-length-2
 same-length-2 c = search needs
 
--- src/pour.rt:54:1
 returns-3 : tie.Need-returns-3
 unfolding eventLine
 returns-3 c =
     let a = c .before .before in
     rw (a .before .before .before .event2 .given .1) (a .put-unit .ensures .0, omega (arith, a .put-unit .ensures .1))
 
--- src/pour.rt:54:1
 same-length-3 : tie.Need-same-length-3
 same-length-3 c = search needs
 
--- src/pour.rt:54:1
 returns-4 : tie.Need-returns-4
 unfolding eventLine
 returns-4 c =
