@@ -10,3 +10,4 @@ pub mod Steps
 pub mod Feed
 pub mod Examples
 pub mod Worked
+pub mod Claims

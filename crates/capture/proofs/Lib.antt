@@ -1,0 +1,3 @@
+-- The theorems, and the laws that they share.
+pub mod Drained
+pub mod Pours
