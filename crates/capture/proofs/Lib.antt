@@ -1,3 +1,4 @@
 -- The theorems, and the laws that they share.
 pub mod Drained
 pub mod Pours
+pub mod Texts
