@@ -20,7 +20,9 @@ add-result c = search needs
 
 returns-2 : tie.Need-returns-2
 returns-2 c =
-    (rw (c .read16 .ensures) (sym (slot-size-known _ (c .before .if1 .left))), omega arith)
+    let r = c .read16 .ensures in
+    let k = slot-size-known (c .before .before .before .args .b .now) (c .before .if1 .left) in
+    (omega arith, omega arith)
 
 pub slot-size-spec : {M : Type 1} → statement M
 slot-size-spec = tie.close (tie.spec returns read16-requires cast-result add-result returns-2)
