@@ -2,3 +2,4 @@
 pub mod Drained
 pub mod Pours
 pub mod Texts
+pub mod Feeds

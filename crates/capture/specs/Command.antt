@@ -72,7 +72,7 @@ module _ (b : List ℕ) where
       go true e = let l = ltb-true (length b) 3 e in omega (arith, slot-size-short l)
       go false e = ltb-false (length b) 3 e
 
-  slot-size-within : (3 ≤ slotSize b) × (slotSize b ≤ 65538)
+  pub slot-size-within : (3 ≤ slotSize b) × (slotSize b ≤ 65538)
   slot-size-within = go (ltb (length b) 3) refl
     where
       go : (t : Bool) → ltb (length b) 3 ≡ t → (3 ≤ slotSize b) × (slotSize b ≤ 65538)
