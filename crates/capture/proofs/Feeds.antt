@@ -4,7 +4,7 @@ use mathlib.Core.Path.{_≡_, refl, sym, _∙_, ap}
 use mathlib.Core.Bool.{Bool, true, false, cond, _&&_, not, and-eq-true-iff, true≢false}
 use mathlib.Core.List.{List, [], _∷_, _++_, append-assoc}
 use native.Mathlib.Omega.{arith}
-use borrow.Author.Tests.{eqb-true, eqb-false, not-true, ltb-true, ltb-false, eq-eqb}
+use borrow.Author.Tests.{leb-true, eqb-true, eqb-false, not-true, ltb-true, ltb-false, eq-eqb}
 use lib.ListN.{length, getD, take, drop, length-append, length-drop, take-append-drop}
 use lib.Seq.{take-paste, take-at, drop-at, drop-drop, length-take-le}
 use lib.Dec.{eqb, ltb}
@@ -220,5 +220,42 @@ module _ (block : List ℕ) (w : World) (r : Right block w) (g : goes block w �
           written = sym (wrote-none (w .out) (w .written));
           within = omega arith;
           rest = λ more. ap (textOf (w .session) (w .packet) (w .collecting)) (ahead-split block w r reading more);
+        },
+      )
+
+  -- the command is carried out
+  turn-whole : sizeOf (b block w r reading) ≤ length (b block w r reading) → Right block v × Feeds block w v
+  unfolding turnOf actedOf
+  turn-whole h =
+      let s = some block w r reading in
+      let x = b block w r reading in
+      let m = b-length block w r reading in
+      let long = r .long in
+      let k = kept-none (d block w r reading) (w .held + n block w r reading) (omega arith) (omega arith) in
+      let q = doneOf (w .session) (w .packet) (w .collecting) x in
+      let room = leb-true (w .written + 152) (length (w .out)) (free .0) in
+      let short = done-152 (w .session) (w .packet) (w .collecting) x in
+      let o = wrote (w .out) (w .written) (q .text) in
+      let e : o .0 ≡ w .written + length (q .text) = wrote-end (w .out) (w .written) (q .text) in
+      let l : length (o .1) ≡ length (w .out) = length-wrote (w .out) (w .written) (q .text) (omega arith) in
+      let y = pour-claim (q .session) (q .packet) (w .collecting) (o .1) (o .0) (omega arith) in
+      let z = pouredOf (q .session) (q .packet) (w .collecting) (o .1) (o .0) in
+      let within = y .within in
+      let i : z .0 .at ≡ o .0 + length (y .text) = ap (λ (t : ℕ × List ℕ). t .0) (y .written) ∙ wrote-end (o .1) (o .0) (y .text) in
+      let j : length (z .2) ≡ length (o .1) =
+      ap (λ (t : ℕ × List ℕ). length (t .1)) (y .written) ∙ length-wrote (o .1) (o .0) (y .text) within in
+      rw (ran-whole (w .session) x (w .packet) (w .collecting) (w .out) (w .written) h _ _ _ refl _ _ _ refl, k) (
+        record { part = λ f. absurd (f refl); held = omega arith; long = omega arith; read = s .2; written = omega arith },
+        record {
+          text = q .text ++ y .text;
+          written = y .written ∙ wrote-append (w .out) (w .written) (q .text) (y .text) (omega arith);
+          within = rw length-append (omega arith);
+          rest = λ more.
+              ap (textOf (w .session) (w .packet) (w .collecting)) (ahead-split block w r reading more)
+              ∙ done-text (w .session) (w .packet) (w .collecting) x _ (omega arith) (free .1) (free .2) h
+              (b-within block w r reading)
+              ∙ ap (λ (t : List ℕ). q .text ++ t)
+              (text-behind (q .session) (q .packet) (w .collecting) _ (y .text) (z .0 .session) (z .1) (y .owed))
+              ∙ sym (append-assoc (q .text) (y .text) _);
         },
       )
