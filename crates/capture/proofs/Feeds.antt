@@ -21,8 +21,8 @@ use Rattle.capture.specs.Session.{busy, isReading, isEnded, inPhase, wit
 use Rattle.capture.specs.Command.{letterOf, sizeOf, whole, size-by, slot-size-within, size-kept, size-grows, size-most}
 use Rattle.capture.specs.Capture.{Done, fits, callOf, afterCall, settled, doneOf, drainedOf, lastLine, textOf}
 use Rattle.capture.specs.Steps.{roomy, actedOf, pouredOf}
-use Rattle.capture.specs.Feed.{World, heldOf, wantedOf, keptOf, Keeps, gatheredOf, ranOf, goesBy, goes, turnOf, keeps-all, keeps-none, gathered-some, wanted-first, wanted-rest, kept-all, kept-none, ran-part, ran-whole, goes-read}
-use Rattle.capture.specs.Claims.{Right, ahead, Feeds, Pours}
+use Rattle.capture.specs.Feed.{World, heldOf, wantedOf, keptOf, Keeps, gatheredOf, ranOf, goesBy, goes, turnOf, fedBy, fedFrom, keeps-all, keeps-none, gathered-some, wanted-first, wanted-rest, kept-all, kept-none, ran-part, ran-whole, goes-read}
+use Rattle.capture.specs.Claims.{Right, ahead, Feeds, Pours, FeedClaim}
 use Rattle.capture.proofs.Drained.{drain-idle}
 use Rattle.capture.proofs.Pours.{pour-claim}
 use Rattle.capture.proofs.Texts.{whole-size, size-whole, onFrom, text-step, text-behind}
@@ -259,3 +259,54 @@ module _ (block : List ℕ) (w : World) (r : Right block w) (g : goes block w �
               ∙ sym (append-assoc (q .text) (y .text) _);
         },
       )
+
+  turn-feeds : Right block v × Feeds block w v
+  turn-feeds = go (ltb (length (b block w r reading)) (sizeOf (b block w r reading))) refl
+    where
+      go : (t : Bool) → ltb (length (b block w r reading)) (sizeOf (b block w r reading)) ≡ t → Right block v × Feeds block w v
+      go true e = turn-part (ltb-true _ _ e)
+      go false e = turn-whole (ltb-false _ _ e)
+
+-- nothing is read, and one turn after another
+feeds-none : (block : List ℕ) (w : World) → Right block w → Feeds block w w
+feeds-none block w r =
+    let h = r .written in
+    record {
+      text = [];
+      written = sym (wrote-none (w .out) (w .written));
+      within = omega arith;
+      rest = λ more. refl;
+    }
+
+feeds-more : (block : List ℕ) (u w v : World) → Feeds block u w → Feeds block w v → Feeds block u v
+feeds-more block u w v f g =
+    let s = f .text in
+    let t = g .text in
+    let e : w .written ≡ u .written + length s =
+    ap (λ (x : ℕ × List ℕ). x .0) (f .written) ∙ wrote-end (u .out) (u .written) s in
+    let l : length (w .out) ≡ length (u .out) =
+    ap (λ (x : ℕ × List ℕ). length (x .1)) (f .written) ∙ length-wrote (u .out) (u .written) s (f .within) in
+    let h = g .within in
+    record {
+      text = s ++ t;
+      written =
+          g .written ∙ ap (λ (x : ℕ × List ℕ). wrote (x .1) (x .0) t) (f .written)
+          ∙ wrote-append (u .out) (u .written) s t (omega arith);
+      within = rw length-append (omega arith);
+      rest = λ more.
+          f .rest more ∙ ap (λ (x : List ℕ). s ++ x) (g .rest more) ∙ sym (append-assoc s t _);
+    }
+
+feed-by : (f : ℕ) (block : List ℕ) (w : World) → Right block w → Right block (fedBy f block w) × Feeds block w (fedBy f block w)
+unfolding fedBy
+feed-by zero block w r = (r, feeds-none block w r)
+feed-by (suc f) block w r =
+    by-test (λ (v : World). Right block v × Feeds block w v) (goes block w) (fedBy f block (turnOf block w)) w
+    (λ g. let t = turn-feeds block w r g in
+    let i = feed-by f block (turnOf block w) (t .0) in
+    (i .0, feeds-more block w (turnOf block w) (fedBy f block (turnOf block w)) (t .1) (i .1)))
+    (λ g. (r, feeds-none block w r))
+
+pub feed-claim : FeedClaim
+unfolding fedFrom
+feed-claim block w r = feed-by (length block - w .read) block w r
