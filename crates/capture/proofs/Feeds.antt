@@ -115,7 +115,7 @@ done-152 s p c b =
     none-152 (refused-152 (r .0 .refusal))) none-152
 
 -- a session that has ended gives its last line
-ended-text : (s : Session) (p c b : List ℕ) → isEnded (s .phase) ≡ true → textOf s p c b ≡ lastLine (s .tally)
+pub ended-text : (s : Session) (p c b : List ℕ) → isEnded (s .phase) ≡ true → textOf s p c b ≡ lastLine (s .tally)
 ended-text s p c b e =
     text-step s p c b ∙ rw (drain-idle s p c (idle (s .phase) e)) (go (whole b) _)
   where
@@ -150,7 +150,7 @@ unknown-done s p c b m = rw (unknown-letter b _ refl m, unfit (s .phase))
     unfit Reading = refl
     unfit Ended = refl
 
-unknown-whole : (b : List ℕ) → sizeOf b ≡ 0 → whole b ≡ false
+pub unknown-whole : (b : List ℕ) → sizeOf b ≡ 0 → whole b ≡ false
 unfolding whole
 unknown-whole b m = rw (eq-eqb (sizeOf b) 0 m)
 

@@ -3,3 +3,4 @@ pub mod Drained
 pub mod Pours
 pub mod Texts
 pub mod Feeds
+pub mod Playing

@@ -11,3 +11,4 @@ pub mod Feed
 pub mod Examples
 pub mod Worked
 pub mod Claims
+pub mod Plays
