@@ -1,0 +1,312 @@
+-- Why feeding writes the first of the lines that the bytes ahead come to: a turn gathers bytes, or carries out a whole command.
+use Prim.Native.Nat.{ℕ, zero, suc, min, _+_, _-_, _<_, _≤_}
+use mathlib.Core.Path.{_≡_, refl, sym, _∙_, ap}
+use mathlib.Core.Bool.{Bool, true, false, cond, _&&_, not, and-eq-true-iff, true≢false}
+use mathlib.Core.List.{List, [], _∷_, _++_, append-assoc}
+use native.Mathlib.Omega.{arith}
+use borrow.Author.Tests.{leb-true, eqb-true, eqb-false, not-true, ltb-true, ltb-false, eq-eqb}
+use lib.ListN.{length, getD, take, drop, length-append, length-drop, take-append-drop}
+use lib.Seq.{take-paste, take-at, drop-at, drop-drop, length-take-le}
+use lib.Dec.{eqb, ltb}
+use Rattle.wire.specs.Memory.{pasted}
+use Rattle.delivery.specs.Choice.{by-test}
+use Rattle.capture.specs.declared.command.Letter.{Letter}
+use Rattle.capture.specs.declared.command.Letter.the-variants.{Start, Frame, LostFrame, Slot, LostSlot, Unknown}
+use Rattle.capture.specs.declared.session.Phase.{Phase}
+use Rattle.capture.specs.declared.session.Phase.the-variants.{Before, Reading, Ended}
+use Rattle.capture.specs.declared.session.Session.{Session}
+use Rattle.capture.specs.Line.{refusedLine, field-21}
+use Rattle.capture.specs.Text.{wrote, wrote-none, wrote-end, length-wrote, wrote-append}
+use Rattle.capture.specs.Session.{busy, isReading, isEnded, inPhase, withState}
+use Rattle.capture.specs.Command.{letterOf, sizeOf, whole, size-by, slot-size-within, size-kept, size-grows, size-most}
+use Rattle.capture.specs.Capture.{Done, fits, callOf, afterCall, settled, doneOf, drainedOf, lastLine, textOf}
+use Rattle.capture.specs.Steps.{roomy, actedOf, pouredOf}
+use Rattle.capture.specs.Feed.{World, heldOf, wantedOf, keptOf, Keeps, gatheredOf, ranOf, goesBy, goes, turnOf, fedBy, fedFrom, keeps-all, keeps-none, gathered-some, wanted-first, wanted-rest, kept-all, kept-none, ran-part, ran-whole, goes-read}
+use Rattle.capture.specs.Claims.{Right, ahead, Feeds, Pours, FeedClaim}
+use Rattle.capture.proofs.Drained.{drain-idle}
+use Rattle.capture.proofs.Pours.{pour-claim}
+use Rattle.capture.proofs.Texts.{whole-size, size-whole, onFrom, text-step, text-behind}
+
+right-keeps : (block : List ℕ) (w : World) → Right block w → Keeps (w .command) (w .held)
+right-keeps block w r = go (eqb (w .held) 0) refl
+  where
+    go : (t : Bool) → eqb (w .held) 0 ≡ t → Keeps (w .command) (w .held)
+    go true e = rw (eqb-true (w .held) 0 e) (keeps-none (w .command))
+    go false e = keeps-all (w .command) (w .held) (r .held) (r .part (eqb-false _ _ e)) (size-most _)
+
+-- what a turn gathers
+module _ (block : List ℕ) (w : World) (r : Right block w) (l : w .read < length block) where
+  abbrev n : ℕ
+  n = gatheredOf (w .command) (w .held) block (w .read) .0
+
+  abbrev d : List ℕ
+  d = gatheredOf (w .command) (w .held) block (w .read) .1
+
+  abbrev b : List ℕ
+  b = take (w .held + n) d
+
+  abbrev new : List ℕ
+  new = take n (drop (w .read) block)
+
+  some : (1 ≤ n) × (w .held + n ≤ 65538) × (w .read + n ≤ length block) × (length d ≡ length (w .command))
+  some = gathered-some (w .command) d (w .held) block (w .read) n refl (right-keeps block w r) l (r .long)
+
+  b-split : b ≡ heldOf (w .command) (w .held) ++ new
+  unfolding gatheredOf pasted
+  b-split =
+      let s = some in
+      take-paste (w .command) (w .held) (drop (w .read) block) n (r .held) (rw (length-drop (w .read) block) (omega arith))
+
+  b-length : length b ≡ w .held + n
+  b-length = let s = some in let h = r .long in length-take-le (w .held + n) d (omega arith)
+
+  -- a command that is known is not passed
+  b-within : 1 ≤ sizeOf b → length b ≤ sizeOf b
+  unfolding gatheredOf
+  b-within k = go (eqb (w .held) 0) refl
+    where
+      go : (t : Bool) → eqb (w .held) 0 ≡ t → length b ≤ sizeOf b
+      go true e =
+          let z = eqb-true _ _ e in
+          let h = length-take-le (w .held) (w .command) (r .held) in
+          let v = wanted-first (heldOf (w .command) (w .held)) (h ∙ z) in
+          let m = b-length in
+          omega arith
+      go false e =
+          let z = eqb-false _ _ e in
+          let h = length-take-le (w .held) (w .command) (r .held) in
+          let v = wanted-rest (heldOf (w .command) (w .held)) (λ q. z (sym h ∙ q)) in
+          let g = size-grows (heldOf (w .command) (w .held)) new (omega arith) in
+          let p = r .part z in
+          let m = b-length in
+          let f : sizeOf (heldOf (w .command) (w .held)) ≤ sizeOf b = rw b-split g in
+          omega arith
+
+  -- the bytes ahead
+  ahead-split : (more : List ℕ) → ahead block w more ≡ b ++ (drop (w .read + n) block ++ more)
+  ahead-split more =
+      rw b-split
+      (ap (λ (x : List ℕ). heldOf (w .command) (w .held) ++ (x ++ more))
+      (sym (take-append-drop n (drop (w .read) block)) ∙ ap (λ (x : List ℕ). new ++ x) (drop-drop n (w .read) block))
+      ∙ ap (λ (x : List ℕ). heldOf (w .command) (w .held) ++ x) (append-assoc new (drop (w .read + n) block) more)
+      ∙ sym (append-assoc (heldOf (w .command) (w .held)) new _))
+
+refused-152 : (n : ℕ) → length (refusedLine n) ≤ 152
+unfolding refusedLine
+refused-152 n = rw length-append (omega (arith, field-21 n 10))
+
+-- a line of a command is no longer than any other
+either-152 : (t : Bool) (x y : Done) → length (x .text) ≤ 152 → length (y .text) ≤ 152 → length (cond t x y .text) ≤ 152
+either-152 true x y h k = h
+either-152 false x y h k = k
+
+none-152 : length {A = ℕ} [] ≤ 152
+none-152 = omega arith
+
+done-152 : (s : Session) (p c b : List ℕ) → length (doneOf s p c b .text) ≤ 152
+unfolding doneOf
+done-152 s p c b =
+    let l = letterOf (getD b 0 0) in
+    let r = callOf l (s .state) p c b in
+    either-152 (fits (s .phase) l) (settled l (r .0) s (r .1)) (record { text = []; session = inPhase s Ended; packet = p })
+    (either-152 (eqb (r .0 .refusal) 0)
+    (record { text = []; session = afterCall l (withState s (r .0 .state)); packet = r .1 })
+    (record { text = refusedLine (r .0 .refusal); session = inPhase (withState s (r .0 .state)) Ended; packet = r .1 })
+    none-152 (refused-152 (r .0 .refusal))) none-152
+
+-- a session that has ended gives its last line
+pub ended-text : (s : Session) (p c b : List ℕ) → isEnded (s .phase) ≡ true → textOf s p c b ≡ lastLine (s .tally)
+ended-text s p c b e =
+    text-step s p c b ∙ rw (drain-idle s p c (idle (s .phase) e)) (go (whole b) _)
+  where
+    idle : (x : Phase) → isEnded x ≡ true → isReading x && s .state .owed ≡ false
+    idle Before q = absurd (true≢false (sym q))
+    idle Reading q = absurd (true≢false (sym q))
+    idle Ended q = refl
+
+    go : (t : Bool) (x : List ℕ) → cond (t && not (isEnded (s .phase))) x (lastLine (s .tally)) ≡ lastLine (s .tally)
+    go true x = rw e
+    go false x = refl
+
+-- an unknown command ends the session
+unknown-letter : (b : List ℕ) (x : Letter) → letterOf (getD b 0 0) ≡ x → sizeOf b ≡ 0 → x ≡ Unknown
+unknown-letter b Start e m = let z = size-by b Start e in absurd (omega arith)
+unknown-letter b Frame e m = let z = size-by b Frame e in absurd (omega arith)
+unknown-letter b LostFrame e m = let z = size-by b LostFrame e in absurd (omega arith)
+unknown-letter b Slot e m =
+    let z = size-by b Slot e in
+    let y = slot-size-within b .0 in
+    absurd (omega arith)
+unknown-letter b LostSlot e m = let z = size-by b LostSlot e in absurd (omega arith)
+unknown-letter b Unknown e m = refl
+
+unknown-done : (s : Session) (p c b : List ℕ) → sizeOf b ≡ 0
+    → doneOf s p c b ≡ record { text = []; session = inPhase s Ended; packet = p }
+unfolding doneOf
+unknown-done s p c b m = rw (unknown-letter b _ refl m, unfit (s .phase))
+  where
+    unfit : (x : Phase) → fits x Unknown ≡ false
+    unfit Before = refl
+    unfit Reading = refl
+    unfit Ended = refl
+
+pub unknown-whole : (b : List ℕ) → sizeOf b ≡ 0 → whole b ≡ false
+unfolding whole
+unknown-whole b m = rw (eq-eqb (sizeOf b) 0 m)
+
+-- a command that is whole, or unknown, is carried out
+module _ (s : Session) (p c b rest : List ℕ) (h : 1 ≤ length b) (i : busy s ≡ false) (e : isEnded (s .phase) ≡ false)
+    (k : sizeOf b ≤ length b) where
+  known-text : 1 ≤ sizeOf b → length b ≤ sizeOf b
+      → let q = doneOf s p c b in textOf s p c (b ++ rest) ≡ q .text ++ textOf (q .session) (q .packet) c rest
+  known-text m l =
+      let z = size-kept b rest h k in
+      let y : sizeOf b ≡ length b = omega arith in
+      let x = length-append b rest in
+      let v = size-whole (b ++ rest) (omega arith) (omega arith) in
+      let t : take (sizeOf (b ++ rest)) (b ++ rest) ≡ b = take-at b rest _ (sym (z ∙ y)) in
+      let u : drop (sizeOf (b ++ rest)) (b ++ rest) ≡ rest = drop-at b rest _ (sym (z ∙ y)) in
+      text-step s p c (b ++ rest) ∙ rw (drain-idle s p c i, v, e, t, u)
+
+  unknown-text : sizeOf b ≡ 0
+      → let q = doneOf s p c b in textOf s p c (b ++ rest) ≡ q .text ++ textOf (q .session) (q .packet) c rest
+  unknown-text m =
+      let z = size-kept b rest h k in
+      let q = unknown-done s p c b m in
+      text-step s p c (b ++ rest) ∙ rw (drain-idle s p c i, unknown-whole (b ++ rest) (z ∙ m), q)
+      (sym (ended-text (inPhase s Ended) p c rest refl))
+
+  done-text : (1 ≤ sizeOf b → length b ≤ sizeOf b)
+      → let q = doneOf s p c b in textOf s p c (b ++ rest) ≡ q .text ++ textOf (q .session) (q .packet) c rest
+  done-text f = go (eqb (sizeOf b) 0) refl
+    where
+      go : (t : Bool) → eqb (sizeOf b) 0 ≡ t
+          → let q = doneOf s p c b in textOf s p c (b ++ rest) ≡ q .text ++ textOf (q .session) (q .packet) c rest
+      go true m = unknown-text (eqb-true _ _ m)
+      go false m =
+          let z : 1 ≤ sizeOf b = omega (arith, eqb-false (sizeOf b) 0 m) in
+          known-text z (f z)
+
+-- a turn
+module _ (block : List ℕ) (w : World) (r : Right block w) (g : goes block w ≡ true) where
+  reading : w .read < length block
+  reading = goes-read _ _ _ _ _ g
+
+  free : (roomy (length (w .out)) (w .written) ≡ true) × (busy (w .session) ≡ false) × (isEnded (w .session .phase) ≡ false)
+  unfolding goesBy
+  free =
+      let s = w .session in
+      let x = and-eq-true-iff (ltb (w .read) (length block)) _ .0 g .1 in
+      let y = and-eq-true-iff (roomy (length (w .out)) (w .written)) (not (busy s) && not (isEnded (s .phase))) .0 x in
+      let z = and-eq-true-iff (not (busy s)) (not (isEnded (s .phase))) .0 (y .1) in
+      (y .0, not-true _ (z .0), not-true _ (z .1))
+
+  abbrev v : World
+  v = turnOf block w
+
+  -- bytes are gathered, and the command is not whole
+  turn-part : length (b block w r reading) < sizeOf (b block w r reading) → Right block v × Feeds block w v
+  unfolding turnOf
+  turn-part h =
+      let s = some block w r reading in
+      let m = b-length block w r reading in
+      let long = r .long in
+      let written = r .written in
+      let k = kept-all (d block w r reading) (w .held + n block w r reading) (omega arith) (omega arith) in
+      rw (ran-part (w .session) (b block w r reading) (w .packet) (w .collecting) (w .out) (w .written) h, k) (
+        record { part = λ z. omega arith; held = omega arith; long = omega arith; read = s .2; written = written },
+        record {
+          text = [];
+          written = sym (wrote-none (w .out) (w .written));
+          within = omega arith;
+          rest = λ more. ap (textOf (w .session) (w .packet) (w .collecting)) (ahead-split block w r reading more);
+        },
+      )
+
+  -- the command is carried out
+  turn-whole : sizeOf (b block w r reading) ≤ length (b block w r reading) → Right block v × Feeds block w v
+  unfolding turnOf actedOf
+  turn-whole h =
+      let s = some block w r reading in
+      let x = b block w r reading in
+      let m = b-length block w r reading in
+      let long = r .long in
+      let k = kept-none (d block w r reading) (w .held + n block w r reading) (omega arith) (omega arith) in
+      let q = doneOf (w .session) (w .packet) (w .collecting) x in
+      let room = leb-true (w .written + 152) (length (w .out)) (free .0) in
+      let short = done-152 (w .session) (w .packet) (w .collecting) x in
+      let o = wrote (w .out) (w .written) (q .text) in
+      let e : o .0 ≡ w .written + length (q .text) = wrote-end (w .out) (w .written) (q .text) in
+      let l : length (o .1) ≡ length (w .out) = length-wrote (w .out) (w .written) (q .text) (omega arith) in
+      let y = pour-claim (q .session) (q .packet) (w .collecting) (o .1) (o .0) (omega arith) in
+      let z = pouredOf (q .session) (q .packet) (w .collecting) (o .1) (o .0) in
+      let within = y .within in
+      let i : z .0 .at ≡ o .0 + length (y .text) = ap (λ (t : ℕ × List ℕ). t .0) (y .written) ∙ wrote-end (o .1) (o .0) (y .text) in
+      let j : length (z .2) ≡ length (o .1) =
+      ap (λ (t : ℕ × List ℕ). length (t .1)) (y .written) ∙ length-wrote (o .1) (o .0) (y .text) within in
+      rw (ran-whole (w .session) x (w .packet) (w .collecting) (w .out) (w .written) h _ _ _ refl _ _ _ refl, k) (
+        record { part = λ f. absurd (f refl); held = omega arith; long = omega arith; read = s .2; written = omega arith },
+        record {
+          text = q .text ++ y .text;
+          written = y .written ∙ wrote-append (w .out) (w .written) (q .text) (y .text) (omega arith);
+          within = rw length-append (omega arith);
+          rest = λ more.
+              ap (textOf (w .session) (w .packet) (w .collecting)) (ahead-split block w r reading more)
+              ∙ done-text (w .session) (w .packet) (w .collecting) x _ (omega arith) (free .1) (free .2) h
+              (b-within block w r reading)
+              ∙ ap (λ (t : List ℕ). q .text ++ t)
+              (text-behind (q .session) (q .packet) (w .collecting) _ (y .text) (z .0 .session) (z .1) (y .owed))
+              ∙ sym (append-assoc (q .text) (y .text) _);
+        },
+      )
+
+  turn-feeds : Right block v × Feeds block w v
+  turn-feeds = go (ltb (length (b block w r reading)) (sizeOf (b block w r reading))) refl
+    where
+      go : (t : Bool) → ltb (length (b block w r reading)) (sizeOf (b block w r reading)) ≡ t → Right block v × Feeds block w v
+      go true e = turn-part (ltb-true _ _ e)
+      go false e = turn-whole (ltb-false _ _ e)
+
+-- nothing is read, and one turn after another
+feeds-none : (block : List ℕ) (w : World) → Right block w → Feeds block w w
+feeds-none block w r =
+    let h = r .written in
+    record {
+      text = [];
+      written = sym (wrote-none (w .out) (w .written));
+      within = omega arith;
+      rest = λ more. refl;
+    }
+
+feeds-more : (block : List ℕ) (u w v : World) → Feeds block u w → Feeds block w v → Feeds block u v
+feeds-more block u w v f g =
+    let s = f .text in
+    let t = g .text in
+    let e : w .written ≡ u .written + length s =
+    ap (λ (x : ℕ × List ℕ). x .0) (f .written) ∙ wrote-end (u .out) (u .written) s in
+    let l : length (w .out) ≡ length (u .out) =
+    ap (λ (x : ℕ × List ℕ). length (x .1)) (f .written) ∙ length-wrote (u .out) (u .written) s (f .within) in
+    let h = g .within in
+    record {
+      text = s ++ t;
+      written =
+          g .written ∙ ap (λ (x : ℕ × List ℕ). wrote (x .1) (x .0) t) (f .written)
+          ∙ wrote-append (u .out) (u .written) s t (omega arith);
+      within = rw length-append (omega arith);
+      rest = λ more.
+          f .rest more ∙ ap (λ (x : List ℕ). s ++ x) (g .rest more) ∙ sym (append-assoc s t _);
+    }
+
+feed-by : (f : ℕ) (block : List ℕ) (w : World) → Right block w → Right block (fedBy f block w) × Feeds block w (fedBy f block w)
+unfolding fedBy
+feed-by zero block w r = (r, feeds-none block w r)
+feed-by (suc f) block w r =
+    by-test (λ (v : World). Right block v × Feeds block w v) (goes block w) (fedBy f block (turnOf block w)) w
+    (λ g. let t = turn-feeds block w r g in
+    let i = feed-by f block (turnOf block w) (t .0) in
+    (i .0, feeds-more block w (turnOf block w) (fedBy f block (turnOf block w)) (t .1) (i .1)))
+    (λ g. (r, feeds-none block w r))
+
+pub feed-claim : FeedClaim
+unfolding fedFrom
+feed-claim block w r = feed-by (length block - w .read) block w r

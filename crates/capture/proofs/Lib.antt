@@ -1,0 +1,6 @@
+-- The theorems, and the laws that they share.
+pub mod Drained
+pub mod Pours
+pub mod Texts
+pub mod Feeds
+pub mod Playing

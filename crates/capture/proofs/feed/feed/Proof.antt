@@ -1,0 +1,160 @@
+-- Why `feed` meets its contract: each turn leaves what feeding comes to, and less of the block.
+use Prim.Native.Nat.{ℕ, _+_, _-_, _≤_}
+use mathlib.Core.Path.{_≡_, refl, sym, _∙_, ap}
+use mathlib.Core.Bool.{true}
+use mathlib.Core.List.{List}
+use native.Mathlib.Omega.{arith}
+use borrow.Author.Needs.{needs}
+use borrow.Author.Tests.{leb-true}
+use lib.ListN.{length, take, length-take}
+use lib.Seq.{length-take-le}
+use Rattle.capture.specs.declared.session.Session.{Session}
+use Rattle.capture.specs.Feed.{World, Keeps, goesBy, goes-room, goes-read, gathered-some, turn-by, fedFrom, fed-turn, fed-stops, fed-short, fed-long}
+use Rattle.capture.proofs.feed.feed.Statement.{statement}
+use Rattle.capture.proofs.feed.feed.Tie as tie
+
+abbrev world : Session → ℕ → List ℕ → ℕ → List ℕ → List ℕ → List ℕ → ℕ → World
+world s held command read p c out written =
+    record {
+      session = s;
+      held = held;
+      command = command;
+      read = read;
+      packet = p;
+      collecting = c;
+      out = out;
+      written = written;
+    }
+
+abbrev Inv-loop : tie.InvT-loop
+Inv-loop held command₀ block packet₀ collecting₀ out₀ next₀ kept₀ read₀ written₀ command packet collecting out next kept read written =
+    (fedFrom block (world next kept command read packet collecting out written)
+    ≡ fedFrom block (world next₀ kept₀ command₀ 0 packet₀ collecting₀ out₀ 0))
+    × Keeps command kept × (read ≤ length block) × (65538 ≤ length command) × (length command ≡ length command₀)
+    × (length packet ≡ length packet₀) × (length collecting ≡ length collecting₀) × (length out ≡ length out₀)
+
+abbrev μ-loop : tie.MeasureT-loop
+μ-loop held command₀ block packet₀ collecting₀ out₀ next₀ kept₀ read₀ written₀ command packet collecting out next kept read written =
+    length block - read
+
+-- the turn is made
+goes : (g : tie.After-gather Inv-loop μ-loop) → let l = g .before .before .before .before in
+    goesBy (l .loop .next) (l .loop .read) (length (l .before .before .before .before .before .before .before .before .before .args .block .now)) (l .loop .written) (length (l .loop .out)) ≡ true
+goes g = let i = g .before .before in sym (i .before .goes-on .ensures) ∙ i .if2 .taken
+
+-- what came to the command memory
+took : (g : tie.After-gather Inv-loop μ-loop) → let l = g .before .before .before .before in
+    (1 ≤ g .gather .result) × (l .loop .kept + g .gather .result ≤ 65538)
+    × (l .loop .read + g .gather .result ≤ length (l .before .before .before .before .before .before .before .before .before .args .block .now))
+    × (length (g .gather .last .0) ≡ length (l .loop .command))
+took g =
+    let l = g .before .before .before .before in
+    gathered-some _ _ _ _ _ _ (g .gather .ensures) (l .loop .inv .1) (goes-read _ _ _ _ _ (goes g)) (l .loop .inv .3)
+
+returns : tie.Need-returns Inv-loop μ-loop
+returns c = sym (fed-short _ _ _ _ _ _ _ (c .if1 .taken))
+
+keep-requires : tie.Need-keep-requires Inv-loop μ-loop
+keep-requires c κs = search needs
+
+loop-holds : tie.Need-loop-holds Inv-loop μ-loop
+loop-holds c = (refl, c .keep .ensures .1, omega arith, c .before .before .if1 .left, refl, refl, refl, refl)
+
+goes-on-requires : tie.Need-goes-on-requires Inv-loop μ-loop
+goes-on-requires c κs = search needs
+
+gather-requires : tie.Need-gather-requires Inv-loop μ-loop
+gather-requires c κs = let l = c .before .before .before .loop .inv in (l .1, l .3, l .2)
+
+add-end : tie.Need-add-end Inv-loop μ-loop
+add-end c = record { fits = omega (arith, took (c .before .before) .1) }
+
+slice-reshare-prefix-run : tie.Need-slice-reshare-prefix-run Inv-loop μ-loop
+slice-reshare-prefix-run c = omega (arith, took (c .before .before) .1, took (c .before .before) .3, c .before .before .before .before .before .before .loop .inv .3)
+
+slice-aggregate-run : tie.Need-slice-aggregate-run Inv-loop μ-loop
+slice-aggregate-run c =
+    let t = took (c .before .before .before) in
+    sym (length-take-le _ _ (omega (arith, t .1, t .3, c .before .before .before .before .before .before .before .loop .inv .3)))
+
+run-requires : tie.Need-run-requires Inv-loop μ-loop
+run-requires c κs =
+    let g = c .before .before .before .before .before .before in
+    let l = g .before .before .before .before in
+    let t = took g in
+    let h = leb-true (l .loop .written + 152) (length (l .loop .out)) (goes-room _ _ _ _ _ (goes g)) in
+    (rw length-take (omega (arith, t .0, t .1, t .3, l .loop .inv .3)), h)
+
+keep-requires-2 : tie.Need-keep-requires-2 Inv-loop μ-loop
+keep-requires-2 c κs = search needs
+
+add-read : tie.Need-add-read Inv-loop μ-loop
+add-read c =
+    let g = c .before .before .before .before .before .before .before .before .before .before .before .before .before .before .before .before in
+    record { fits = omega (arith, took g .2, g .before .before .before .before .before .before .before .before .before .before .before .before .before .good .1 .1 .1 .0) }
+
+loop-less : tie.Need-loop-less Inv-loop μ-loop
+loop-less c =
+    let g = c .before .before .before .before .before .before .before .before .before .before .before .before .before .before .before .before in
+    omega (arith, took g .0, took g .2)
+
+loop-again : tie.Need-loop-again Inv-loop μ-loop
+loop-again c =
+    let r = c .before .before .before .before .before .before .before .before .before in
+    let g = r .before .before .before .before .before .before .before in
+    let l = g .before .before .before .before .loop in
+    let t = took g in (
+      ap (fedFrom _) (sym (turn-by _ _ _ _ (g .gather .ensures) _ _ _ _ (r .run .ensures) _ (c .keep2 .ensures .0)))
+          ∙ sym (fed-turn _ _ (l .inv .1 .some) (goes g)) ∙ l .inv .0,
+      c .keep2 .ensures .1,
+      t .2,
+      omega (arith, t .3, l .inv .3),
+      t .3 ∙ l .inv .4,
+      r .run .kept .1 .1 .0 ∙ l .inv .5,
+      r .run .kept .1 .1 .1 .0 ∙ l .inv .6,
+      r .run .kept .1 .1 .1 .1 .0 ∙ l .inv .7,
+    )
+
+same-length : tie.Need-same-length Inv-loop μ-loop
+same-length c = c .before .before .loop .inv .4
+
+same-length-2 : tie.Need-same-length-2 Inv-loop μ-loop
+same-length-2 c = c .before .before .loop .inv .5
+
+same-length-3 : tie.Need-same-length-3 Inv-loop μ-loop
+same-length-3 c = c .before .before .loop .inv .6
+
+same-length-4 : tie.Need-same-length-4 Inv-loop μ-loop
+same-length-4 c = c .before .before .loop .inv .7
+
+returns-2 : tie.Need-returns-2 Inv-loop μ-loop
+returns-2 c =
+    let l = c .before .before in
+    let e = sym (c .before .goes-on .ensures) ∙ c .if2 .left in
+    sym (fed-long _ _ _ _ _ _ _ (l .before .before .before .if1 .left) _ (l .before .keep .ensures .0)
+    (sym (l .loop .inv .0) ∙ fed-stops _ _ (l .loop .inv .1 .some) e))
+
+pub feed-spec : {M : Type 1} → statement M
+feed-spec =
+    tie.close
+    (tie.spec
+    Inv-loop
+    μ-loop
+    returns
+    keep-requires
+    loop-holds
+    goes-on-requires
+    gather-requires
+    add-end
+    slice-reshare-prefix-run
+    slice-aggregate-run
+    run-requires
+    keep-requires-2
+    add-read
+    loop-less
+    loop-again
+    same-length
+    same-length-2
+    same-length-3
+    same-length-4
+    returns-2)

@@ -1,0 +1,93 @@
+-- Why `goes_on` meets its contract: test by test.
+use mathlib.Core.Path.{sym, _∙_}
+use Rattle.capture.specs.Feed.{goesBy}
+use borrow.Author.Tests.{lt-ltb, le-ltb, not-true, not-false}
+use borrow.Author.Needs.{needs}
+use Rattle.capture.proofs.feed.goes_on.Statement.{statement}
+use Rattle.capture.proofs.feed.goes_on.Tie as tie
+
+returns : tie.Need-returns
+unfolding goesBy
+returns c = rw (le-ltb _ _ (c .if1 .taken))
+
+has-room-requires : tie.Need-has-room-requires
+has-room-requires c κs = search needs
+
+returns-2 : tie.Need-returns-2
+unfolding goesBy
+returns-2 c =
+    rw (lt-ltb _ _ (c .before .before .if1 .left), sym (c .before .has-room .ensures) ∙ not-true _ (c .if2 .taken))
+
+is-busy-requires : tie.Need-is-busy-requires
+is-busy-requires c κs = search needs
+
+returns-3 : tie.Need-returns-3
+unfolding goesBy
+returns-3 c =
+    let r = c .before .before in
+    rw (
+      lt-ltb _ _ (r .before .before .if1 .left),
+      sym (r .before .has-room .ensures) ∙ not-false _ (r .if2 .left),
+      sym (c .before .is-busy .ensures) ∙ c .if3 .taken,
+    )
+
+enum-told : tie.Need-enum-told
+enum-told c = search needs
+
+enum-told-2 : tie.Need-enum-told-2
+enum-told-2 c = search needs
+
+enum-told-3 : tie.Need-enum-told-3
+enum-told-3 c = search needs
+
+returns-4 : tie.Need-returns-4
+unfolding goesBy
+returns-4 c =
+    let b = c .before .before in
+    let r = b .before .before in
+    rw (
+      lt-ltb _ _ (r .before .before .if1 .left),
+      sym (r .before .has-room .ensures) ∙ not-false _ (r .if2 .left),
+      sym (b .before .is-busy .ensures) ∙ b .if3 .left,
+      c .enum-told .given .1,
+    )
+
+returns-5 : tie.Need-returns-5
+unfolding goesBy
+returns-5 c =
+    let b = c .before .before in
+    let r = b .before .before in
+    rw (
+      lt-ltb _ _ (r .before .before .if1 .left),
+      sym (r .before .has-room .ensures) ∙ not-false _ (r .if2 .left),
+      sym (b .before .is-busy .ensures) ∙ b .if3 .left,
+      c .enum-told2 .given .1,
+    )
+
+returns-6 : tie.Need-returns-6
+unfolding goesBy
+returns-6 c =
+    let b = c .before .before in
+    let r = b .before .before in
+    rw (
+      lt-ltb _ _ (r .before .before .if1 .left),
+      sym (r .before .has-room .ensures) ∙ not-false _ (r .if2 .left),
+      sym (b .before .is-busy .ensures) ∙ b .if3 .left,
+      c .enum-told3 .given .1,
+    )
+
+pub goes-on-spec : {M : Type 1} → statement M
+goes-on-spec =
+    tie.close
+    (tie.spec
+    returns
+    has-room-requires
+    returns-2
+    is-busy-requires
+    returns-3
+    enum-told
+    enum-told-2
+    enum-told-3
+    returns-4
+    returns-5
+    returns-6)

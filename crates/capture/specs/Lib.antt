@@ -1,0 +1,14 @@
+-- The meaning of a capture, from its bytes to its lines.
+pub mod Text
+pub mod Decimal
+pub mod Line
+pub mod Command
+pub mod Session
+pub mod Waits
+pub mod Capture
+pub mod Steps
+pub mod Feed
+pub mod Examples
+pub mod Worked
+pub mod Claims
+pub mod Plays

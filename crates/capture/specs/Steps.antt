@@ -1,0 +1,204 @@
+-- What the functions of a capture answer and leave: the definition's lines, written to a memory while there is room.
+use Prim.Native.Nat.{ℕ, zero, suc, _+_, _<_, _≤_}
+use mathlib.Core.Path.{_≡_, refl, sym, _∙_, ap}
+use mathlib.Core.Bool.{Bool, true, false, cond, _&&_, and-eq-true-iff}
+use mathlib.Core.List.{List}
+use native.Mathlib.Omega.{arith}
+use borrow.Author.Tests.{eq-eqb, ne-eqb}
+use lib.ListN.{length, getD}
+use lib.Dec.{leb}
+use Rattle.delivery.specs.declared.event.Event.{Event}
+use Rattle.delivery.specs.declared.event.Event.the-variants.{Nothing, Note, Unit, Refused}
+use Rattle.delivery.specs.declared.cursor.Found.the-variants.{Event as AnEvent, Done}
+use Rattle.delivery.specs.declared.cursor.Turn.{Turn}
+use Rattle.delivery.specs.Cursor.{turnOf}
+use Rattle.receiver.specs.declared.answer.Called.{Called}
+use Rattle.receiver.specs.declared.state.State.{State}
+use Rattle.receiver.specs.Slot.{shortBy}
+use Rattle.receiver.specs.State.{withOwed}
+use Rattle.receiver.specs.Next.{Out, past, readAll, nextOf, next-short, next-reads}
+use Rattle.receiver.specs.ReadOn.{read-event, read-done}
+use Rattle.capture.specs.declared.command.Letter.{Letter}
+use Rattle.capture.specs.declared.session.Phase.the-variants.{Ended}
+use Rattle.capture.specs.declared.session.Progress.{Progress}
+use Rattle.capture.specs.declared.session.Session.{Session}
+use Rattle.capture.specs.declared.session.Tally.{Tally}
+use Rattle.capture.specs.Text.{wrote, wrote-none}
+use Rattle.capture.specs.Line.{refusedLine}
+use Rattle.capture.specs.Command.{letterOf}
+use Rattle.capture.specs.Session.{isReading, busy, inPhase, withState, withTally}
+use Rattle.capture.specs.Waits.{waits, isLine, next-falls}
+use Rattle.capture.specs.Capture.{fits, callOf, afterCall, doneOf, eventLine, tallied, closed, lastLine}
+
+-- a command carried out with its line written to `out`: what the function answers and leaves
+unfoldable pub actedOf : Session → List ℕ → List ℕ → List ℕ → List ℕ → ℕ → Progress × List ℕ × List ℕ
+actedOf s p c b out at =
+    let d = doneOf s p c b in
+    let w = wrote out at (d .text) in
+    (record { session = d .session; at = w .0 }, d .packet, w .1)
+
+-- there is room for a longest line
+abbrev pub roomy : ℕ → ℕ → Bool
+roomy size at = leb (at + 152) size
+
+-- what calling next leaves: the session and the place behind the lines, collecting memory, and the lines in `out`
+abbrev pub Poured : Type 0
+Poured = Progress × List ℕ × List ℕ
+
+abbrev pub pouredAt : Session → List ℕ → ℕ × List ℕ → Poured
+pouredAt s c w = (record { session = s; at = w .0 }, c, w .1)
+
+-- after an event, `s` having the state that next left; `on` goes on from there
+abbrev pub pourBy : Event → Session → List ℕ → List ℕ → ℕ → (Session → List ℕ → List ℕ → ℕ → Poured) → Poured
+pourBy e s c out at on =
+    let t = withTally s (tallied (s .tally) e) in
+    let w = wrote out at (eventLine (s .tally) e) in
+    cond (isLine e) (on t c (w .1) (w .0)) (pouredAt (closed t e) c w)
+
+-- next is owed, and the memories are long enough for it
+pub record Drains (s : Session) (packet collecting : ℕ) : Type 0 where
+  pub owed : busy s ≡ true
+  pub long : shortBy (s .state .config) packet collecting ≡ false
+
+-- next, until nothing waits or there is no room; `f` bounds the calls
+unfoldable pub pouredBy : ℕ → Session → List ℕ → List ℕ → List ℕ → ℕ → Poured
+pouredBy zero s p c out at = pouredAt s c (at, out)
+pouredBy (suc f) s p c out at =
+    let r = nextOf (s .state) p c in
+    cond (busy s && roomy (length out) at)
+    (pourBy (r .0 .event) (withState s (r .0 .state)) (r .1) out at (λ t d o a. pouredBy f t p d o a))
+    (pouredAt s c (at, out))
+
+unfoldable pub pouredOf : Session → List ℕ → List ℕ → List ℕ → ℕ → Poured
+pouredOf s p c out at = pouredBy (suc (waits (s .state) p)) s p c out at
+
+-- the last line, where there is room for it
+unfoldable pub finishedOf : Tally → List ℕ → ℕ → ℕ × List ℕ
+finishedOf t out at = cond (roomy (length out) at) (wrote out at (lastLine t)) (at, out)
+
+-- Laws.
+
+-- a command, case by case
+module _ (s : Session) (p c b out : List ℕ) (at : ℕ) (l : Letter) (k : letterOf (getD b 0 0) ≡ l) where
+  pub acted-unknown : fits (s .phase) l ≡ false
+      → actedOf s p c b out at ≡ (record { session = inPhase s Ended; at = at }, p, out)
+  unfolding actedOf doneOf
+  acted-unknown f = rw (k, f, wrote-none out at)
+
+  module _ (f : fits (s .phase) l ≡ true) (r : Called) (q : List ℕ) (e : (r, q) ≡ callOf l (s .state) p c b) where
+    pub acted-accepted : r .refusal ≡ 0
+        → actedOf s p c b out at ≡ (record { session = afterCall l (withState s (r .state)); at = at }, q, out)
+    unfolding actedOf doneOf
+    acted-accepted z = rw (k, f, ← e, eq-eqb _ _ z, wrote-none out at)
+
+    pub acted-refused : (r .refusal ≡ 0 → ⊥) → (end : ℕ) (o : List ℕ) → (end, o) ≡ wrote out at (refusedLine (r .refusal))
+        → actedOf s p c b out at ≡ (record { session = inPhase (withState s (r .state)) Ended; at = end }, q, o)
+    unfolding actedOf doneOf
+    acted-refused z end o w = rw (k, f, ← e, ne-eqb _ _ z, ← w)
+
+-- two ways of going on that agree where less waits
+module _ (p : List ℕ) (f g : Session → List ℕ → List ℕ → ℕ → Poured) where
+  pour-same : (e : Event) (s : Session) (c out : List ℕ) (at n : ℕ) → (isLine e ≡ true → waits (s .state) p < n)
+      → ((t : Session) (d o : List ℕ) (a : ℕ) → waits (t .state) p < n → f t d o a ≡ g t d o a)
+      → pourBy e s c out at f ≡ pourBy e s c out at g
+  pour-same e s c out at n h k = go (isLine e) refl
+    where
+      go : (b : Bool) → isLine e ≡ b → pourBy e s c out at f ≡ pourBy e s c out at g
+      go true i = rw i (k _ c _ _ (h i))
+      go false i = rw i
+
+-- more calls change nothing
+pour-enough : (f g : ℕ) (s : Session) (p c out : List ℕ) (at : ℕ) → waits (s .state) p < f → waits (s .state) p < g
+    → pouredBy f s p c out at ≡ pouredBy g s p c out at
+unfolding pouredBy
+pour-enough zero g s p c out at h k = absurd (omega arith)
+pour-enough (suc f) zero s p c out at h k = absurd (omega arith)
+pour-enough (suc f) (suc g) s p c out at h k =
+    let r = nextOf (s .state) p c in
+    ap (λ (x : Poured). cond (busy s && roomy (length out) at) x (pouredAt s c (at, out)))
+    (pour-same p (λ t d o a. pouredBy f t p d o a) (λ t d o a. pouredBy g t p d o a) (r .0 .event) (withState s (r .0 .state)) (r .1)
+    out at (waits (s .state) p) (next-falls p (s .state) c)
+    (λ t d o a l. pour-enough f g t p d o a (omega arith) (omega arith)))
+
+module _ (s : Session) (p c out : List ℕ) (at : ℕ) where
+  -- one call at a time
+  pub pour-step : let r = nextOf (s .state) p c in
+      pouredOf s p c out at
+      ≡ cond (busy s && roomy (length out) at)
+      (pourBy (r .0 .event) (withState s (r .0 .state)) (r .1) out at (λ t d o a. pouredOf t p d o a)) (pouredAt s c (at, out))
+  unfolding pouredOf pouredBy
+  pour-step =
+      let r = nextOf (s .state) p c in
+      let n = waits (s .state) p in
+      ap (λ (x : Poured). cond (busy s && roomy (length out) at) x (pouredAt s c (at, out)))
+      (pour-same p (λ t d o a. pouredBy n t p d o a) (λ t d o a. pouredBy (suc (waits (t .state) p)) t p d o a) (r .0 .event)
+      (withState s (r .0 .state)) (r .1) out at n (next-falls p (s .state) c)
+      (λ t d o a l. pour-enough n (suc (waits (t .state) p)) t p d o a l (omega arith)))
+
+  pub pour-stops : (busy s && roomy (length out) at) ≡ false → pouredOf s p c out at ≡ pouredAt s c (at, out)
+  pour-stops h = pour-step ∙ rw h
+
+  pub pour-next : (busy s && roomy (length out) at) ≡ true → (o : Out) → nextOf (s .state) p c ≡ o
+      → pouredOf s p c out at ≡ pourBy (o .0 .event) (withState s (o .0 .state)) (o .1) out at (λ t d o a. pouredOf t p d o a)
+  pour-next h o e = pour-step ∙ rw (h, e)
+
+-- nothing is owed, there is no room, or the memories are too short for next
+module _ (s : Session) (p c out : List ℕ) (at : ℕ) where
+  pub pour-idle : busy s ≡ false → pouredOf s p c out at ≡ pouredAt s c (at, out)
+  pour-idle h = pour-stops s p c out at (rw h)
+
+  module _ (h : busy s ≡ true) where
+    pub pour-full : roomy (length out) at ≡ false → pouredOf s p c out at ≡ pouredAt s c (at, out)
+    pour-full r = pour-stops s p c out at (rw (h, r))
+
+    pub pour-short : roomy (length out) at ≡ true → shortBy (s .state .config) (length p) (length c) ≡ true → (r : ℕ) (o : List ℕ)
+        → (r, o) ≡ wrote out at (refusedLine 22) → pouredOf s p c out at ≡ pouredAt (inPhase s Ended) c (r, o)
+    unfolding eventLine tallied closed
+    pour-short r e n o w = pour-next s p c out at (rw (h, r)) _ (next-short (s .state) p c e) ∙ rw (← w)
+
+-- one turn of reading on at a time
+module _ (s : Session) (p c out : List ℕ) (at : ℕ) (d : Drains s (length p) (length c)) (room : roomy (length out) at ≡ true) where
+  abbrev turned : Turn
+  turned = turnOf (s .state .queue) (s .state .cursor) p
+
+  drains-on : (busy s && roomy (length out) at) ≡ true
+  drains-on = rw (d .owed, room)
+
+  pour-read : (o : Out) → readAll (s .state) p c ≡ o
+      → pouredOf s p c out at ≡ pourBy (o .0 .event) (withState s (o .0 .state)) (o .1) out at (λ t d o a. pouredOf t p d o a)
+  pour-read o e = pour-next s p c out at drains-on o (next-reads (s .state) p c (d .long) (and-eq-true-iff (isReading (s .phase)) (s .state .owed) .0 (d .owed) .1) ∙ e)
+
+  module _ (e : Event) (h : turned .found ≡ AnEvent e) where
+    abbrev stepped : Session
+    stepped = withTally (withState s (past (s .state) turned)) (tallied (s .tally) e)
+
+    pour-event : pouredOf s p c out at ≡ pourBy e (withState s (past (s .state) turned)) c out at (λ t d o a. pouredOf t p d o a)
+    pour-event = pour-read _ (read-event (s .state) p c e h)
+
+    module _ (r : ℕ) (o : List ℕ) (w : (r, o) ≡ wrote out at (eventLine (s .tally) e)) where
+      pub pour-line : isLine e ≡ true → pouredOf s p c out at ≡ pouredOf stepped p c o r
+      pour-line i = pour-event ∙ rw (i, ← w)
+
+      pub pour-last : isLine e ≡ false → pouredOf s p c out at ≡ pouredAt (closed stepped e) c (r, o)
+      pour-last i = pour-event ∙ rw (i, ← w)
+
+  pub pour-done : turned .found ≡ Done
+      → pouredOf s p c out at ≡ pouredAt (withState s (withOwed (past (s .state) turned) false)) c (at, out)
+  unfolding eventLine tallied closed
+  pour-done h = pour-read _ (read-done (s .state) p c h) ∙ rw (wrote-none out at)
+
+-- a turn without an event: the state and collecting memory that it leaves come to the same
+pub pour-on : (s : Session) (p c out : List ℕ) (at : ℕ) (st : State) (c' : List ℕ) → Drains s (length p) (length c)
+    → Drains (withState s st) (length p) (length c') → roomy (length out) at ≡ true → readAll (s .state) p c ≡ readAll st p c'
+    → pouredOf s p c out at ≡ pouredOf (withState s st) p c' out at
+pour-on s p c out at st c' d d' room e =
+    pour-read s p c out at d room _ e ∙ sym (pour-read (withState s st) p c' out at d' room _ refl)
+
+module _ (t : Tally) (out : List ℕ) (at : ℕ) where
+  pub finish-full : roomy (length out) at ≡ false → finishedOf t out at ≡ (at, out)
+  unfolding finishedOf
+  finish-full h = rw h
+
+  pub finish-line : roomy (length out) at ≡ true → finishedOf t out at ≡ wrote out at (lastLine t)
+  unfolding finishedOf
+  finish-line h = rw h

@@ -1,0 +1,162 @@
+// Blocks of a capture's bytes, fed to it one after the other.
+ghost use mathlib.Core.Path.{_≡_};
+ghost use Prim.Native.Nat.{min, _+_, _≤_};
+ghost use lib.ListN.{length};
+ghost use Rattle.capture.specs.Feed.{wantedOf, keptOf, Keeps, gatheredOf, ranOf, goesBy, fedOf};
+use crate::act::act;
+use crate::command::size;
+use crate::pour::has_room;
+use crate::pour::is_busy;
+use crate::pour::pour;
+use crate::session::Phase;
+use crate::session::Progress;
+use crate::session::Session;
+
+// The longest command: S, its length, and 65,535 bytes.
+pub const LONGEST_COMMAND: usize = 65538;
+
+// What a block leaves.
+pub struct Fed {
+    pub session: Session,
+    // How many bytes of a command that is not whole yet stand in the command memory.
+    pub held: usize,
+    // How many bytes of the block were read.
+    pub read: usize,
+    // How many bytes of text were written.
+    pub written: usize,
+}
+
+// How many bytes more are wanted to know a command's length, or to have it whole.
+fn wanted(b: &[u8]) -> usize
+    ensures { λ r. ⌜ r ≡ wantedOf (now (b .entry)) ⌝ }
+{
+    if b.len() == 0 {
+        return 1;
+    }
+    let n = size(b);
+    if n < b.len() {
+        return 0;
+    }
+    n - b.len()
+}
+
+fn smaller(m: usize, n: usize) -> usize
+    ensures { λ r. ⌜ r ≡ min m n ⌝ }
+{
+    if m < n {
+        return m;
+    }
+    n
+}
+
+// How many of the first `held` bytes are held: all where they begin a command that is not whole, else none.
+fn keep(command: &[u8], held: usize) -> usize
+    ensures { λ r. ⌜ (r ≡ keptOf (now (command .entry)) held) × Keeps (now (command .entry)) r ⌝ }
+{
+    if command.len() < held {
+        return 0;
+    }
+    let n = size(&command[..held]);
+    if held < n {
+        return held;
+    }
+    0
+}
+
+// The bytes that are wanted come to the command memory, as far as the block has them; answers how many.
+fn gather(command: &mut [u8], held: usize, block: &[u8], read: usize) -> usize
+    requires { ⌜ Keeps (now command) held × (65538 ≤ length (now command)) × (read ≤ length (now block)) ⌝ }
+    ensures { λ r. ⌜ (r, now (command .exit)) ≡ gatheredOf (now (command .entry)) held (now (block .entry)) read ⌝ }
+{
+    let most = wanted(&command[..held]);
+    let n = smaller(most, block.len() - read);
+    let end = read + n;
+    wire::memory::copy_at(command, held, &block[read..end]);
+    n
+}
+
+// The command that is held, carried out if it is whole, with the lines of what next gives; an unknown one ends the session.
+fn run(
+    session: Session,
+    b: &[u8],
+    packet: &mut [u8],
+    collecting: &mut [u8],
+    out: &mut [u8],
+    at: usize,
+) -> Progress
+    requires { ⌜ (1 ≤ length (now b)) × (at + 152 ≤ length (now out)) ⌝ }
+    ensures { λ r. ⌜ (r, now (packet .exit), now (collecting .exit), now (out .exit))
+        ≡ ranOf session (now (b .entry)) (now (packet .entry)) (now (collecting .entry)) (now (out .entry)) at ⌝ }
+{
+    let n = size(b);
+    if b.len() < n {
+        return Progress { session, at };
+    }
+    let acted = act(session, packet, collecting, b, out, at);
+    let next = acted.session;
+    pour(next, packet, collecting, out, acted.at)
+}
+
+// Whether another command is read: bytes are left, there is room for a line, and the session neither ended nor owes next.
+fn goes_on(session: Session, read: usize, size: usize, written: usize, room: usize) -> bool
+    ensures { λ r. ⌜ r ≡ goesBy session read size written room ⌝ }
+{
+    if size <= read {
+        return false;
+    }
+    if !has_room(room, written) {
+        return false;
+    }
+    if is_busy(session) {
+        return false;
+    }
+    let phase = session.phase;
+    match phase {
+        Phase::Before => true,
+        Phase::Reading => true,
+        Phase::Ended => false,
+    }
+}
+
+// Reads commands from a block until it is used up, or there is no room for a line, or the session ends or owes next.
+pub fn feed(
+    session: Session,
+    held: usize,
+    command: &mut [u8],
+    block: &[u8],
+    packet: &mut [u8],
+    collecting: &mut [u8],
+    out: &mut [u8],
+) -> Fed
+    ensures { λ r. ⌜ (r, now (command .exit), now (packet .exit), now (collecting .exit), now (out .exit))
+        ≡ fedOf session held (now (command .entry)) (now (block .entry)) (now (packet .entry)) (now (collecting .entry))
+        (now (out .entry)) ⌝ }
+{
+    if command.len() < LONGEST_COMMAND {
+        return Fed {
+            session,
+            held,
+            read: 0,
+            written: 0,
+        };
+    }
+    let mut next = session;
+    let mut kept = keep(command, held);
+    let mut read = 0;
+    let mut written = 0;
+    while goes_on(next, read, block.len(), written, out.len()) {
+        let n = gather(command, kept, block, read);
+        let end = kept + n;
+        let ran = run(next, &command[..end], packet, collecting, out, written);
+        next = ran.session;
+        written = ran.at;
+        kept = keep(command, end);
+        read += n;
+    }
+    Fed {
+        session: next,
+        held: kept,
+        read,
+        written,
+    }
+}

@@ -1,0 +1,228 @@
+// Lines of the events that next gives, while there is room.
+ghost use mathlib.Core.Path.{_≡_};
+ghost use Prim.Native.Nat.{_+_, _*_, _≤_};
+ghost use mathlib.Core.Bool.{true};
+ghost use lib.ListN.{length};
+ghost use Rattle.intake.specs.Slot.{holding};
+ghost use Rattle.capture.specs.Text.{Put};
+ghost use Rattle.capture.specs.Waits.{isLine};
+ghost use Rattle.capture.specs.Session.{isReading, busy};
+ghost use Rattle.capture.specs.Capture.{eventLine, tallied, closed};
+ghost use Rattle.capture.specs.Steps.{roomy, Drains, pouredOf};
+use crate::line::LONGEST;
+use crate::line::put_note;
+use crate::line::put_refused;
+use crate::line::put_unit;
+use crate::session::Phase;
+use crate::session::Progress;
+use crate::session::Session;
+use crate::session::Tally;
+use delivery::cursor::Found;
+use delivery::cursor::find;
+use delivery::event::Event;
+use delivery::packet::arrive;
+use delivery::packet::receive;
+use intake::held::Held;
+
+// Whether there is room for a longest line from `at` on.
+pub fn has_room(size: usize, at: usize) -> bool
+    ensures { λ r. ⌜ r ≡ roomy size at ⌝ }
+{
+    if size < LONGEST {
+        return false;
+    }
+    at <= size - LONGEST
+}
+
+// Whether next is owed.
+pub fn is_busy(session: Session) -> bool
+    ensures { λ r. ⌜ r ≡ busy session ⌝ }
+{
+    let state = session.state;
+    let phase = session.phase;
+    match phase {
+        Phase::Before => false,
+        Phase::Reading => state.owed,
+        Phase::Ended => false,
+    }
+}
+
+fn is_line(event: Event) -> bool
+    ensures { λ r. ⌜ r ≡ isLine event ⌝ }
+{
+    match event {
+        Event::Nothing => false,
+        Event::Note(_, _) => true,
+        Event::Unit(_) => true,
+        Event::Refused(_) => false,
+    }
+}
+
+fn put_event(out: &mut [u8], at: usize, tally: Tally, event: Event) -> usize
+    requires { ⌜ at + 152 ≤ length (now out) ⌝ }
+    ensures { λ r. ⌜ Put (now (out .entry)) at (eventLine tally event) 152 r (now (out .exit)) ⌝ }
+{
+    match event {
+        Event::Nothing => at,
+        Event::Note(note, id) => put_note(out, at, tally.frames, tally.slot, note, id),
+        Event::Unit(given) => put_unit(out, at, tally.frames, tally.slot, given),
+        Event::Refused(n) => put_refused(out, at, n),
+    }
+}
+
+fn count(tally: Tally, event: Event) -> Tally
+    ensures { λ r. ⌜ r ≡ tallied tally event ⌝ }
+{
+    match event {
+        Event::Nothing => tally,
+        Event::Note(_, _) => Tally {
+            notes: std::num::wrapping_add_u64(tally.notes, 1),
+            ..tally
+        },
+        Event::Unit(_) => Tally {
+            units: std::num::wrapping_add_u64(tally.units, 1),
+            ..tally
+        },
+        Event::Refused(_) => tally,
+    }
+}
+
+// The session after an event that is no line.
+fn close(session: Session, event: Event) -> Session
+    ensures { λ r. ⌜ r ≡ closed session event ⌝ }
+{
+    match event {
+        Event::Nothing => {
+            let mut state = session.state;
+            state.owed = false;
+            Session { state, ..session }
+        }
+        Event::Note(_, _) => session,
+        Event::Unit(_) => session,
+        Event::Refused(_) => Session {
+            phase: Phase::Ended,
+            ..session
+        },
+    }
+}
+
+// A tail is held.
+fn hold(start: usize, len: usize) -> Held
+    ensures { λ r. ⌜ r ≡ holding start len ⌝ }
+{
+    Held {
+        on: true,
+        start,
+        len,
+    }
+}
+
+// Reads on by `find` as next does, but keeps the state in its place over all events.
+fn drain(
+    session: Session,
+    packet: &[u8],
+    collecting: &mut [u8],
+    out: &mut [u8],
+    at: usize,
+) -> Progress
+    requires { ⌜ Drains session (length (now packet)) (length (now collecting)) ⌝ }
+    ensures { λ r. ⌜ (r, now (collecting .exit), now (out .exit))
+        ≡ pouredOf session (now (packet .entry)) (now (collecting .entry)) (now (out .entry)) at ⌝ }
+{
+    let mut next = session.state;
+    let config = next.config;
+    let mut tally = session.tally;
+    let mut place = at;
+    while has_room(out.len(), place) {
+        let queue = next.queue;
+        let cursor = next.cursor;
+        let turn = find(queue, cursor, packet);
+        let rest = turn.queue;
+        next.queue = rest;
+        let past = turn.cursor;
+        next.cursor = past;
+        let found = turn.found;
+        match found {
+            Found::Event(event) => {
+                let behind = put_event(out, place, tally, event);
+                place = behind;
+                let counted = count(tally, event);
+                tally = counted;
+                if !is_line(event) {
+                    let last = Session {
+                        state: next,
+                        tally: counted,
+                        ..session
+                    };
+                    let session = close(last, event);
+                    return Progress {
+                        session,
+                        at: behind,
+                    };
+                }
+            }
+            Found::Packet(start, end) => {
+                let arrived = arrive(config, packet, start, end);
+                let k = delivery::packet::place(arrived);
+                let channel = next.channels[k];
+                let j = receive(arrived, channel, rest, packet, collecting, config.limit);
+                let queue = j.queue;
+                next.queue = queue;
+                let after = j.channel;
+                next.channels[k] = after;
+            }
+            Found::Tail(start, len) => {
+                let held = hold(start, len);
+                next.held = held;
+            }
+            Found::Done => {
+                next.owed = false;
+                let session = Session {
+                    state: next,
+                    tally,
+                    ..session
+                };
+                return Progress { session, at: place };
+            }
+        }
+    }
+    let session = Session {
+        state: next,
+        tally,
+        ..session
+    };
+    Progress { session, at: place }
+}
+
+// Calls next until nothing waits or there is no room, and writes its lines.
+pub fn pour(
+    session: Session,
+    packet: &[u8],
+    collecting: &mut [u8],
+    out: &mut [u8],
+    at: usize,
+) -> Progress
+    ensures { λ r. ⌜ (r, now (collecting .exit), now (out .exit))
+        ≡ pouredOf session (now (packet .entry)) (now (collecting .entry)) (now (out .entry)) at ⌝ }
+{
+    if !is_busy(session) {
+        return Progress { session, at };
+    }
+    if !has_room(out.len(), at) {
+        return Progress { session, at };
+    }
+    let state = session.state;
+    let config = state.config;
+    if receiver::slot::is_short(config, packet.len(), collecting.len()) {
+        let end = put_refused(out, at, 22);
+        let ended = Session {
+            phase: Phase::Ended,
+            ..session
+        };
+        return Progress {
+            session: ended,
+            at: end,
+        };
+    }
+    drain(session, packet, collecting, out, at)
+}

@@ -1,0 +1,31 @@
+// What a capture's commands have come to.
+use receiver::state::State;
+
+pub enum Phase {
+    // C has not come.
+    Before,
+    Reading,
+    // An unknown command came, or a call was refused.
+    Ended,
+}
+
+pub struct Tally {
+    // Frames so far, lost ones too.
+    pub frames: u64,
+    // The slot of the events that next gives, from 1; 0 for a lost frame.
+    pub slot: u64,
+    pub units: u64,
+    pub notes: u64,
+}
+
+pub struct Session {
+    pub phase: Phase,
+    pub state: State,
+    pub tally: Tally,
+}
+
+// The session, and the place behind what was written.
+pub struct Progress {
+    pub session: Session,
+    pub at: usize,
+}
