@@ -2,7 +2,7 @@
 use Prim.Native.Nat.{ℕ, _+_, _-_, _%_, _^_, _≤_}
 use mathlib.Core.Path.{_≡_, refl, ap}
 use mathlib.Core.Bool.{Bool, true, false, cond}
-use mathlib.Core.List.{List, [], _++_, append-nil}
+use mathlib.Core.List.{List, _++_, append-nil}
 use native.Mathlib.Omega.{arith}
 use lib.Dec.{eqb}
 use lib.ListN.{length, take, drop, length-drop, drop-of-length-le}
@@ -43,7 +43,8 @@ rest-put run out at = rw (drop-of-length-le (drop at run) {i = length run - at} 
 
 pub unit-put : (w : Written) (k : ℕ) (source run : List ℕ) (p : Packed) (out : List ℕ) (end : ℕ) (after : List ℕ)
     → (p, out)
-    ≡ packOf (sentAt k .unit) 5 0 700 (partOf source (sentAt k .start) (sentAt k .len)) (take (length run - w .at) (drop (w .at) run))
+    ≡ packOf (sentAt k .unit) 5 0 700 (partOf source (sentAt k .start) (sentAt k .len))
+    (take (length run - w .at) (drop (w .at) run))
     → (end, after)
     ≡ nullAt (w .at + p .len) 150 (take (w .at) run ++ (out ++ drop (length run - w .at) (drop (w .at) run)))
     → (record { at = end; packed = cond (eqb (p .refusal) 0) ((w .packed + 1) % 2 ^ 64) (w .packed) }, after)

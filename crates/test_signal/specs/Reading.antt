@@ -12,7 +12,6 @@ use Rattle.delivery.specs.declared.event.Event.the-variants.{Nothing, Note, Uni
 use Rattle.delivery.specs.Choice.{chosen, chosen-not}
 use Rattle.cutter.specs.Slot.{slotOf as cutOf}
 use Rattle.receiver.specs.declared.answer.Called.{Called}
-use Rattle.receiver.specs.declared.state.State.{State}
 use Rattle.receiver.specs.Start.{startOf}
 use Rattle.receiver.specs.Frame.{frameOf}
 use Rattle.receiver.specs.Slot.{slotOf}

@@ -6,7 +6,6 @@ use lib.ListN.{replicate}
 use lib.Dec.{eqb}
 use Rattle.tmcc.specs.Count.{tab}
 use Rattle.mmtp.specs.declared.unit.Fields.{Fields}
-use Rattle.reassembly.specs.declared.unit.Unit.{Unit}
 use Rattle.reassembly.specs.declared.config.Config.{Config}
 use Rattle.test_signal.specs.declared.sent.Sent.{Sent}
 
