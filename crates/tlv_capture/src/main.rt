@@ -1,0 +1,32 @@
+// Reads a capture on standard input and prints its lines.
+mod pump;
+
+use capture::finish::begin;
+use capture::finish::finish;
+
+// The turns are counted down from a number that no run uses up.
+fn main() {
+    let mut packet = [0u8; 21433];
+    let mut collecting = io::large_buffer();
+    let mut command = [0u8; 65538];
+    let mut block = io::large_buffer();
+    let mut out = io::large_buffer();
+    let mut p = pump::fresh(begin());
+    let mut turns = u64::MAX;
+    while turns > 0 && pump::goes_on(p) {
+        p = pump::refill(p, &mut block);
+        p = pump::feed_on(
+            p,
+            &block,
+            &mut command,
+            &mut packet,
+            &mut collecting,
+            &mut out,
+        );
+        p = pump::pour_on(p, &packet, &mut collecting, &mut out);
+        turns -= 1;
+    }
+    let session = p.session;
+    let end = finish(session.tally, &mut out, 0);
+    pump::put(&out, end);
+}
