@@ -100,9 +100,11 @@ fn length_at(m: &[u8], at: usize, wide: bool) -> usize
 
 // Where the aggregated unit at `at` ends, if it is whole and has its fields.
 fn span_at(m: &[u8], at: usize, kind: u8, wide: bool) -> Span
-    requires { ⌜ at ≤ length (now m) ⌝ }
     ensures { λ r. ⌜ r ≡ spanAt (now (m .entry)) at kind wide ⌝ }
 {
+    if m.len() < at {
+        return Span::Malformed;
+    }
     let left = m.len() - at;
     let w = length_bytes(wide);
     if left < w {
