@@ -3,5 +3,6 @@ pub mod flow;
 pub mod header;
 pub mod packet;
 pub mod payload;
+pub mod reader;
 pub mod unit;
 pub mod watch;

@@ -98,8 +98,8 @@ fn length_at(m: &[u8], at: usize, wide: bool) -> usize
     }
 }
 
-// Where the aggregated unit at `at` ends, if it is whole and has its fields.
-fn span_at(m: &[u8], at: usize, kind: u8, wide: bool) -> Span
+// Where the aggregated unit at `at` ends, if it is whole and has its fields: the work of `reader::step`.
+pub fn span_at(m: &[u8], at: usize, kind: u8, wide: bool) -> Span
     ensures { λ r. ⌜ r ≡ spanAt (now (m .entry)) at kind wide ⌝ }
 {
     if m.len() < at {
