@@ -4,6 +4,7 @@ ghost use Prim.Native.Nat.{_+_, _≤_, _<_};
 ghost use lib.ListN.{length, drop};
 ghost use Rattle.wire.specs.Field.{be};
 ghost use Rattle.mmtp.specs.Unit.{fieldBytes, fieldsOf, lengthBytes, spanAt, unitAt, singleFits, singleAt, aggregateFits};
+use crate::reader::unit_span;
 use wire::field;
 
 // The fields of a data unit; 0 where its kind has none.
@@ -127,7 +128,7 @@ pub fn unit_at(m: &[u8], at: usize, kind: u8, wide: bool) -> Step
     if m.len() <= at {
         return Step::End;
     }
-    let span = span_at(m, at, kind, wide);
+    let span = unit_span(m, at, kind, wide);
     let Span::To(end) = span else {
         return Step::Malformed;
     };
@@ -169,7 +170,7 @@ pub fn aggregate_fits(m: &[u8], start: usize, kind: u8, wide: bool) -> bool
     }
     let mut at = start;
     while at < m.len() {
-        let span = span_at(m, at, kind, wide);
+        let span = unit_span(m, at, kind, wide);
         match span {
             Span::To(end) => {
                 at = end;

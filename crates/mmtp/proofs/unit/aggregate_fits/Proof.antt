@@ -23,7 +23,7 @@ spans : (c : tie.After-known-told Inv-loop μ-loop)
     let at = c .before .before .before .before .before .loop .at in
     (unitFits (drop at (a .m .now)) (a .kind) (a .wide) ≡ true)
     × (c .before .span .given .0 .0 ≡ unitEnd (a .m .now) at (a .wide))
-spans c = span-to _ _ _ _ _ (sym (c .before .before .before .span-at .ensures) ∙ c .before .span .given .1)
+spans c = span-to _ _ _ _ _ (sym (c .before .before .before .unit-span .ensures) ∙ c .before .span .given .1)
 
 -- it ends in the packet, past the place of the turn
 ends : (c : tie.After-known-told Inv-loop μ-loop)
@@ -40,8 +40,8 @@ returns c =
 loop-holds : tie.Need-loop-holds Inv-loop μ-loop
 loop-holds c = (omega arith, refl)
 
-span-at-requires : tie.Need-span-at-requires Inv-loop μ-loop
-span-at-requires c κs = search needs
+unit-span-requires : tie.Need-unit-span-requires Inv-loop μ-loop
+unit-span-requires c κs = search needs
 
 enum-known-span : tie.Need-enum-known-span Inv-loop μ-loop
 enum-known-span c = search needs
@@ -60,7 +60,7 @@ returns-2 : tie.Need-returns-2 Inv-loop μ-loop
 returns-2 c =
     let a = c .before .before .before .before .before .before .before .args in
     let l = length-drop (a .start) (a .m .now) in
-    let u = span-cut _ _ _ _ (sym (c .before .before .span-at .ensures) ∙ c .enum-told .given .1) in
+    let u = span-cut _ _ _ _ (sym (c .before .before .unit-span .ensures) ∙ c .enum-told .given .1) in
     let d = c .before .before .before in
     sym (aggregate-fits-some _ _ _ (omega arith) ∙ sym (d .before .loop .inv .1) ∙ fits-not _ _ _ _ (d .loop-test .taken) u)
 
@@ -78,7 +78,7 @@ aggregate-fits-spec =
     μ-loop
     returns
     loop-holds
-    span-at-requires
+    unit-span-requires
     enum-known-span
     loop-less
     loop-again

@@ -14,7 +14,7 @@ use Rattle.mmtp.proofs.unit.unit_at.Tie as tie
 spans : (c : tie.After-known-told) → let a = c .before .before .before .before .before .before .args in
     (unitFits (drop (a .at) (a .m .now)) (a .kind) (a .wide) ≡ true)
     × (c .before .span .given .0 .0 ≡ unitEnd (a .m .now) (a .at) (a .wide))
-spans c = span-to _ _ _ _ _ (sym (c .before .before .before .span-at .ensures) ∙ c .before .span .given .1)
+spans c = span-to _ _ _ _ _ (sym (c .before .before .before .unit-span .ensures) ∙ c .before .span .given .1)
 
 room : (c : tie.After-known-told) → let a = c .before .before .before .before .before .before .args in
     a .at + lengthBytes (a .wide) + fieldBytes (a .kind) ≤ length (a .m .now)
@@ -27,8 +27,8 @@ returns : tie.Need-returns
 unfolding unitAt
 returns c = rw (le-leb _ _ (c .if1 .taken))
 
-span-at-requires : tie.Need-span-at-requires
-span-at-requires c κs = search needs
+unit-span-requires : tie.Need-unit-span-requires
+unit-span-requires c κs = search needs
 
 enum-known-span : tie.Need-enum-known-span
 enum-known-span c = search needs
@@ -39,7 +39,7 @@ enum-told c = search needs
 returns-2 : tie.Need-returns-2
 unfolding unitAt
 returns-2 c =
-    let u = span-cut _ _ _ _ (sym (c .before .before .span-at .ensures) ∙ c .enum-told .given .1) in
+    let u = span-cut _ _ _ _ (sym (c .before .before .unit-span .ensures) ∙ c .enum-told .given .1) in
     rw (lt-leb _ _ (c .before .before .before .if1 .left), u)
 
 length-bytes-requires : tie.Need-length-bytes-requires
@@ -76,7 +76,7 @@ unit-at-spec =
     tie.close
     (tie.spec
     returns
-    span-at-requires
+    unit-span-requires
     enum-known-span
     enum-told
     returns-2
