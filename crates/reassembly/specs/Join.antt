@@ -5,6 +5,7 @@ use mathlib.Core.Bool.{Bool, true, false, cond, _&&_}
 use mathlib.Core.List.{List, [], _∷_, _++_}
 use lib.Dec.{eqb, ltb}
 use borrow.Author.Tests.{lt-ltb, le-ltb}
+use Rattle.mmtp.specs.declared.header.Psn.{Psn}
 use Rattle.mmtp.specs.declared.payload.Indicator.{Indicator}
 use Rattle.mmtp.specs.declared.payload.Indicator.the-variants.{Whole, First, Middle, Last}
 use Rattle.reassembly.specs.declared.channel.Phase.{Phase}
@@ -112,6 +113,10 @@ acted ch p limit = actedBy (p .indicator) ch p limit
 -- (b)
 abbrev pub recorded : Channel → Piece → Channel
 recorded ch p = record { phase = ch .phase; last = p .unit .psn; current = ch .current }
+
+-- (a) where there is a gap, and (b)
+unfoldable pub heardAt : Channel → Psn → Bool → Channel
+heardAt ch psn b = record { phase = cond b Waiting (ch .phase); last = psn; current = ch .current }
 
 abbrev pub noted : ℕ → Joined → Joined
 noted n j = record { channel = j .channel; note = n; over = j .over; action = j .action }

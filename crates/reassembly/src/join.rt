@@ -1,12 +1,14 @@
 // One step of reassembly: a packet's piece comes to the state of its packet_id.
 ghost use mathlib.Core.Path.{_≡_};
 ghost use Prim.Native.Nat.{_+_, _<_};
-ghost use Rattle.reassembly.specs.Join.{interrupted, kept, given, begun, counterFollows, grown, extended, followed, acted, joinOf};
+ghost use Rattle.reassembly.specs.Join.{interrupted, kept, given, begun, counterFollows, grown, extended, followed};
+ghost use Rattle.reassembly.specs.Join.{acted, heardAt, joinOf};
 use crate::channel::Channel;
 use crate::channel::OpenUnit;
 use crate::channel::Phase;
 use crate::channel::is_gap;
 use crate::unit::Unit;
+use mmtp::header::Psn;
 use mmtp::payload::Indicator;
 
 // The first piece of a packet: what a unit that it begins carries, how it stands in its unit, and its length.
@@ -204,20 +206,31 @@ fn act(ch: Channel, p: Piece, limit: usize) -> Joined
     }
 }
 
-// (a) a gap makes it waiting, (b) the psn is recorded, (c) the piece is read.
+// (a) a gap makes it waiting, (b) the psn is recorded.
+fn hear(ch: Channel, psn: Psn, gap: bool) -> Channel
+    ensures { λ r. ⌜ r ≡ heardAt ch psn gap ⌝ }
+{
+    let heard = Channel { last: psn, ..ch };
+    if gap {
+        return Channel {
+            phase: Phase::Waiting,
+            ..heard
+        };
+    }
+    heard
+}
+
+// (a), (b), and (c) the piece is read. `act` is called at one place, so that it can be inlined.
 pub fn join(ch: Channel, p: Piece, limit: usize) -> Joined
     ensures { λ r. ⌜ r ≡ joinOf ch p limit ⌝ }
 {
     let unit = p.unit;
     let psn = unit.psn;
-    let heard = Channel { last: psn, ..ch };
-    if is_gap(ch, psn) {
-        let waiting = Channel {
-            phase: Phase::Waiting,
-            ..heard
-        };
-        let j = act(waiting, p, limit);
+    let gap = is_gap(ch, psn);
+    let heard = hear(ch, psn, gap);
+    let j = act(heard, p, limit);
+    if gap {
         return Joined { note: 60, ..j };
     }
-    act(heard, p, limit)
+    j
 }
