@@ -2,7 +2,7 @@
 ghost use mathlib.Core.Path.{_≡_};
 ghost use Prim.Native.Nat.{_+_, _<_};
 ghost use Rattle.reassembly.specs.Join.{interrupted, kept, given, begun, counterFollows, grown, extended, followed};
-ghost use Rattle.reassembly.specs.Join.{acted, heardAt, joinOf};
+ghost use Rattle.reassembly.specs.Join.{acted, heardAt, joinOf, heardWhole};
 use crate::channel::Channel;
 use crate::channel::OpenUnit;
 use crate::channel::Phase;
@@ -37,6 +37,12 @@ pub struct Joined {
     // Note 64 comes, after the other.
     pub over: bool,
     pub action: Action,
+}
+
+// A packet FI 00 is heard: the channel after it, and its note.
+pub struct HeardWhole {
+    pub channel: Channel,
+    pub note: u8,
 }
 
 // Note 61 where an open unit is dropped.
@@ -233,4 +239,21 @@ pub fn join(ch: Channel, p: Piece, limit: usize) -> Joined
         return Joined { note: 60, ..j };
     }
     j
+}
+
+// `join` of a packet FI 00, whose action is Whole.
+pub fn hear_whole(ch: Channel, psn: Psn) -> HeardWhole
+    ensures { λ r. ⌜ r ≡ heardWhole ch psn ⌝ }
+{
+    let phase = ch.phase;
+    let channel = Channel {
+        phase: Phase::Idle,
+        last: psn,
+        ..ch
+    };
+    if is_gap(ch, psn) {
+        return HeardWhole { channel, note: 60 };
+    }
+    let note = interruption(phase);
+    HeardWhole { channel, note }
 }
