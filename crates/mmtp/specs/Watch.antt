@@ -4,7 +4,7 @@ use mathlib.Core.Bool.{Bool, true, false, cond}
 use mathlib.Core.List.{List}
 use mathlib.Core.Path.{_≡_, refl, sym, _∙_}
 use native.Mathlib.Omega.{arith}
-use borrow.Author.Tests.{eq-eqb, ne-eqb, eqb-true, eqb-false}
+use borrow.Author.Tests.{ne-eqb, eqb-true, eqb-false}
 use lib.ListN.{getD}
 use lib.Dec.{eqb}
 use Rattle.mmtp.specs.declared.watch.Watch.{Watch}
@@ -21,23 +21,6 @@ unfoldable pub lookupOf : Watch → ℕ → Found
 lookupOf w id = firstFrom (w .ids) id 0 (min (w .n) 16)
 
 module _ (ids : List ℕ) (id : ℕ) where
-  unroll : (k n : ℕ) → k < n
-      → firstFrom ids id k (n - k) ≡ cond (eqb (getD ids k 0) id) (At k) (firstFrom ids id (k + 1) (n - (k + 1)))
-  unfolding firstFrom
-  unroll k n h = let e : n - k ≡ suc (n - (k + 1)) = omega arith in rw e
-
-  -- the search at k, of the places up to n
-  pub search-hit : (k n : ℕ) → k < n → getD ids k 0 ≡ id → firstFrom ids id k (n - k) ≡ At k
-  search-hit k n h e = unroll k n h ∙ rw (eq-eqb _ _ e)
-
-  pub search-on : (k n : ℕ) → k < n → (getD ids k 0 ≡ id → ⊥)
-      → firstFrom ids id k (n - k) ≡ firstFrom ids id (k + 1) (n - (k + 1))
-  search-on k n h e = unroll k n h ∙ rw (ne-eqb _ _ e)
-
-  pub search-end : (k n : ℕ) → n ≤ k → firstFrom ids id k (n - k) ≡ Nothing
-  unfolding firstFrom
-  search-end k n h = let e : n - k ≡ zero = omega arith in rw e
-
   -- the place that it finds
   pub record Place (k m j : ℕ) : Type 0 where
     pub low : k ≤ j
@@ -89,6 +72,36 @@ module _ (ids : List ℕ) (id : ℕ) where
           let d : k ≡ j → ⊥ = λ w. eqb-false (getD ids k 0) id t (rw w (p .has)) in
           f (record { low = omega arith; high = omega arith; has = p .has; first = λ i l h g. p .first i (omega arith) h g })
 
+  pub first-missing : (m k : ℕ) → ((i : ℕ) → k ≤ i → i < k + m → getD ids i 0 ≡ id → ⊥) → firstFrom ids id k m ≡ Nothing
+  unfolding firstFrom
+  first-missing zero k f = refl
+  first-missing (suc m) k f =
+      rw (ne-eqb (getD ids k 0) id (f k (omega arith) (omega arith)))
+      (first-missing m (k + 1) (λ i l h g. f i (omega arith) (omega arith) g))
+
+  -- the first of the places from k on and below e that has the id, or e
+  pub record Lowest (k e j : ℕ) : Type 0 where
+    pub low : k ≤ j
+    pub high : j ≤ e
+    pub has : j < e → getD ids j 0 ≡ id
+    pub first : (i : ℕ) → k ≤ i → i < j → getD ids i 0 ≡ id → ⊥
+
+  pub lowest-end : (e : ℕ) → Lowest e e e
+  lowest-end e = record { low = omega arith; high = omega arith; has = λ h. omega arith; first = λ i l h g. omega arith }
+
+  -- the search downwards
+  pub lowest-hit : (k e : ℕ) → k < e → getD ids k 0 ≡ id → Lowest k e k
+  lowest-hit k e h g = record { low = omega arith; high = omega arith; has = λ l. g; first = λ i l b q. omega arith }
+
+  pub lowest-on : (k e j : ℕ) → 0 < k → Lowest k e j → (getD ids (k - 1) 0 ≡ id → ⊥) → Lowest (k - 1) e j
+  lowest-on k e j h p f =
+      record {
+        low = omega arith;
+        high = p .high;
+        has = p .has;
+        first = λ i l b g. let d : k - 1 ≡ i → ⊥ = λ w. f (rw w g) in p .first i (omega arith) b g;
+      }
+
 -- no id stands twice among the first n
 abbrev pub Distinct : List ℕ → ℕ → Type 0
 Distinct ids n = (i j : ℕ) → i < j → j < n → getD ids i 0 ≡ getD ids j 0 → ⊥
@@ -118,6 +131,15 @@ module _ (w : Watch) (id : ℕ) where
       record { low = omega arith; high = omega arith; has = g; first = λ i a b q. f i b q } in
       first-is (w .ids) id (min (w .n) 16) 0 k p
 
-  -- and where no id stands twice, each place
+  -- and what the search downwards found
+  pub lookup-lowest : (k : ℕ) → Lowest (w .ids) id 0 16 k → k < 16 → k < w .n → lookupOf w id ≡ At k
+  lookup-lowest k p h l = lookup-is k h l (p .has h) (λ i b g. p .first i (omega arith) b g)
+
+  pub lookup-missing : (k : ℕ) → Lowest (w .ids) id 0 16 k → min (w .n) 16 ≤ k → lookupOf w id ≡ Nothing
+  unfolding lookupOf
+  lookup-missing k p h =
+      first-missing (w .ids) id (min (w .n) 16) 0 (λ i l b g. p .first i (omega arith) (omega arith) g)
+
+  -- where no id stands twice, each place is found
   pub lookup-distinct : Distinct (w .ids) (w .n) → (k : ℕ) → k < 16 → k < w .n → getD (w .ids) k 0 ≡ id → lookupOf w id ≡ At k
   lookup-distinct d k h l g = lookup-is k h l g (λ i b q. d i k b l (q ∙ sym g))

@@ -5,6 +5,7 @@ use mathlib.Core.Bool.{Bool, true, false, cond, _&&_}
 use mathlib.Core.List.{List, [], _∷_, _++_}
 use lib.Dec.{eqb, ltb}
 use borrow.Author.Tests.{lt-ltb, le-ltb}
+use Rattle.mmtp.specs.declared.header.Psn.{Psn}
 use Rattle.mmtp.specs.declared.payload.Indicator.{Indicator}
 use Rattle.mmtp.specs.declared.payload.Indicator.the-variants.{Whole, First, Middle, Last}
 use Rattle.reassembly.specs.declared.channel.Phase.{Phase}
@@ -15,6 +16,7 @@ use Rattle.reassembly.specs.declared.join.Piece.{Piece}
 use Rattle.reassembly.specs.declared.join.Action.{Action}
 use Rattle.reassembly.specs.declared.join.Action.the-variants.{Nothing, Whole as GiveWhole, Store, Complete}
 use Rattle.reassembly.specs.declared.join.Joined.{Joined}
+use Rattle.reassembly.specs.declared.join.HeardWhole.{HeardWhole}
 use Rattle.reassembly.specs.Unit.{agrees}
 use Rattle.reassembly.specs.Channel.{gap}
 
@@ -113,6 +115,10 @@ acted ch p limit = actedBy (p .indicator) ch p limit
 abbrev pub recorded : Channel → Piece → Channel
 recorded ch p = record { phase = ch .phase; last = p .unit .psn; current = ch .current }
 
+-- (a) where there is a gap, and (b)
+unfoldable pub heardAt : Channel → Psn → Bool → Channel
+heardAt ch psn b = record { phase = cond b Waiting (ch .phase); last = psn; current = ch .current }
+
 abbrev pub noted : ℕ → Joined → Joined
 noted n j = record { channel = j .channel; note = n; over = j .over; action = j .action }
 
@@ -120,6 +126,27 @@ noted n j = record { channel = j .channel; note = n; over = j .over; action = j 
 unfoldable pub joinOf : Channel → Piece → ℕ → Joined
 joinOf ch p limit =
     cond (gap ch (p .unit .psn)) (noted 60 (acted (inPhase (recorded ch p) Waiting) p limit)) (acted (recorded ch p) p limit)
+
+-- FI 00: the channel after it, and its note
+unfoldable pub heardWhole : Channel → Psn → HeardWhole
+heardWhole ch psn =
+    record {
+      channel = record { phase = Idle; last = psn; current = ch .current };
+      note = cond (gap ch psn) 60 (interrupted (ch .phase));
+    }
+
+-- that is the step of a packet FI 00
+pub joined-whole : (ch : Channel) (p : Piece) (limit : ℕ) → p .indicator ≡ Whole
+    → let h = heardWhole ch (p .unit .psn) in
+    joinOf ch p limit ≡ record { channel = h .channel; note = h .note; over = false; action = GiveWhole }
+unfolding joinOf acted heardWhole
+joined-whole ch p limit e = go (gap ch (p .unit .psn)) refl
+  where
+    go : (b : Bool) → gap ch (p .unit .psn) ≡ b
+        → let h = heardWhole ch (p .unit .psn) in
+        joinOf ch p limit ≡ record { channel = h .channel; note = h .note; over = false; action = GiveWhole }
+    go true g = rw (e, g)
+    go false g = rw (e, g)
 
 -- the notes of a step, in order
 unfoldable pub notesOf : Joined → List ℕ

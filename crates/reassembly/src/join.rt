@@ -1,12 +1,14 @@
 // One step of reassembly: a packet's piece comes to the state of its packet_id.
 ghost use mathlib.Core.Path.{_≡_};
 ghost use Prim.Native.Nat.{_+_, _<_};
-ghost use Rattle.reassembly.specs.Join.{interrupted, kept, given, begun, counterFollows, grown, extended, followed, acted, joinOf};
+ghost use Rattle.reassembly.specs.Join.{interrupted, kept, given, begun, counterFollows, grown, extended, followed};
+ghost use Rattle.reassembly.specs.Join.{acted, heardAt, joinOf, heardWhole};
 use crate::channel::Channel;
 use crate::channel::OpenUnit;
 use crate::channel::Phase;
 use crate::channel::is_gap;
 use crate::unit::Unit;
+use mmtp::header::Psn;
 use mmtp::payload::Indicator;
 
 // The first piece of a packet: what a unit that it begins carries, how it stands in its unit, and its length.
@@ -35,6 +37,12 @@ pub struct Joined {
     // Note 64 comes, after the other.
     pub over: bool,
     pub action: Action,
+}
+
+// A packet FI 00 is heard: the channel after it, and its note.
+pub struct HeardWhole {
+    pub channel: Channel,
+    pub note: u8,
 }
 
 // Note 61 where an open unit is dropped.
@@ -204,20 +212,48 @@ fn act(ch: Channel, p: Piece, limit: usize) -> Joined
     }
 }
 
-// (a) a gap makes it waiting, (b) the psn is recorded, (c) the piece is read.
+// (a) a gap makes it waiting, (b) the psn is recorded.
+fn hear(ch: Channel, psn: Psn, gap: bool) -> Channel
+    ensures { λ r. ⌜ r ≡ heardAt ch psn gap ⌝ }
+{
+    let heard = Channel { last: psn, ..ch };
+    if gap {
+        return Channel {
+            phase: Phase::Waiting,
+            ..heard
+        };
+    }
+    heard
+}
+
+// (a), (b), and (c) the piece is read. `act` is called at one place, so that it can be inlined.
 pub fn join(ch: Channel, p: Piece, limit: usize) -> Joined
     ensures { λ r. ⌜ r ≡ joinOf ch p limit ⌝ }
 {
     let unit = p.unit;
     let psn = unit.psn;
-    let heard = Channel { last: psn, ..ch };
-    if is_gap(ch, psn) {
-        let waiting = Channel {
-            phase: Phase::Waiting,
-            ..heard
-        };
-        let j = act(waiting, p, limit);
+    let gap = is_gap(ch, psn);
+    let heard = hear(ch, psn, gap);
+    let j = act(heard, p, limit);
+    if gap {
         return Joined { note: 60, ..j };
     }
-    act(heard, p, limit)
+    j
+}
+
+// `join` of a packet FI 00, whose action is Whole.
+pub fn hear_whole(ch: Channel, psn: Psn) -> HeardWhole
+    ensures { λ r. ⌜ r ≡ heardWhole ch psn ⌝ }
+{
+    let phase = ch.phase;
+    let channel = Channel {
+        phase: Phase::Idle,
+        last: psn,
+        ..ch
+    };
+    if is_gap(ch, psn) {
+        return HeardWhole { channel, note: 60 };
+    }
+    let note = interruption(phase);
+    HeardWhole { channel, note }
 }

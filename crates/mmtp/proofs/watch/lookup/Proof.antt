@@ -1,47 +1,58 @@
--- Why lookup meets its contract: what the search finds from k on is what it finds.
-use Prim.Native.Nat.{_≤_, _-_, min}
-use mathlib.Core.Path.{_≡_, sym, _∙_}
-use native.Mathlib.Nat.{sub-zero}
+-- Why lookup meets its contract: place is the first match from k on, or 16.
+use Prim.Native.Nat.{_≤_}
+use mathlib.Core.Path.{_≡_, sym}
 use native.Mathlib.Omega.{arith}
-use Rattle.mmtp.specs.Watch.{firstFrom, lookupOf, search-hit, search-on, search-end}
+use Rattle.mmtp.specs.Watch.{Lowest, lowest-end, lowest-hit, lowest-on, lookup-lowest, lookup-missing}
 use Rattle.mmtp.proofs.watch.lookup.Statement.{statement}
 use Rattle.mmtp.proofs.watch.lookup.Tie as tie
 
 abbrev Inv-loop : tie.InvT-loop
-Inv-loop id n ids k₀ k = (k ≤ 16) × (firstFrom ids id k (min n 16 - k) ≡ firstFrom ids id 0 (min n 16))
+Inv-loop id n ids place₀ k₀ place k = (k ≤ 16) × Lowest ids id k 16 place
 
 abbrev μ-loop : tie.MeasureT-loop
-μ-loop id n ids k₀ k = 16 - k
+μ-loop id n ids place₀ k₀ place k = k
 
 loop-holds : tie.Need-loop-holds Inv-loop μ-loop
-loop-holds c = (omega arith, rw sub-zero)
+loop-holds c = (omega arith, lowest-end _ _ 16)
 
-returns : tie.Need-returns Inv-loop μ-loop
-unfolding lookupOf
-returns c = sym (search-end _ _ _ _ (omega arith)) ∙ c .before .before .loop .inv .1
+sub-k : tie.Need-sub-k Inv-loop μ-loop
+sub-k c = omega arith
 
-mul-if2 : tie.Need-mul-if2 Inv-loop μ-loop
-mul-if2 c = omega arith
+mul-if1 : tie.Need-mul-if1 Inv-loop μ-loop
+mul-if1 c = omega arith
 
-array-read-if2 : tie.Need-array-read-if2 Inv-loop μ-loop
-array-read-if2 c = omega arith
-
-returns-2 : tie.Need-returns-2 Inv-loop μ-loop
-unfolding lookupOf
-returns-2 c = sym (search-hit _ _ _ _ (omega arith) (c .if2 .taken)) ∙ c .before .before .before .loop .inv .1
-
-add-k : tie.Need-add-k Inv-loop μ-loop
-add-k c = omega arith
+array-read-if1 : tie.Need-array-read-if1 Inv-loop μ-loop
+array-read-if1 c = omega arith
 
 loop-less : tie.Need-loop-less Inv-loop μ-loop
 loop-less c = omega arith
 
 loop-again : tie.Need-loop-again Inv-loop μ-loop
-loop-again c = (omega arith, sym (search-on _ _ _ _ (omega arith) (c .if2 .left)) ∙ c .before .before .before .loop .inv .1)
+loop-again c = (omega arith, lowest-hit _ _ _ _ (omega arith) (c .if1 .taken))
+
+loop-less-2 : tie.Need-loop-less-2 Inv-loop μ-loop
+loop-less-2 c = omega arith
+
+loop-again-2 : tie.Need-loop-again-2 Inv-loop μ-loop
+loop-again-2 c = (omega arith, lowest-on _ _ _ _ _ (omega arith) (c .before .before .loop .inv .1) (c .if1 .left))
+
+returns : tie.Need-returns Inv-loop μ-loop
+returns c =
+    let l = c .before .before .loop in
+    let z : l .k ≡ 0 = omega arith in
+    sym (lookup-missing _ _ _ (rw z at (l .inv .1)) (omega arith))
+
+returns-2 : tie.Need-returns-2 Inv-loop μ-loop
+returns-2 c =
+    let l = c .before .before .before .loop in
+    let z : l .k ≡ 0 = omega arith in
+    sym (lookup-missing _ _ _ (rw z at (l .inv .1)) (omega arith))
 
 returns-3 : tie.Need-returns-3 Inv-loop μ-loop
-unfolding lookupOf
-returns-3 c = sym (search-end _ _ _ _ (omega arith)) ∙ c .before .loop .inv .1
+returns-3 c =
+    let l = c .before .before .before .loop in
+    let z : l .k ≡ 0 = omega arith in
+    sym (lookup-lowest _ _ _ (rw z at (l .inv .1)) (omega arith) (omega arith))
 
 pub lookup-spec : {M : Type 1} → statement M
 lookup-spec =
@@ -50,11 +61,13 @@ lookup-spec =
     Inv-loop
     μ-loop
     loop-holds
-    returns
-    mul-if2
-    array-read-if2
-    returns-2
-    add-k
+    sub-k
+    mul-if1
+    array-read-if1
     loop-less
     loop-again
+    loop-less-2
+    loop-again-2
+    returns
+    returns-2
     returns-3)

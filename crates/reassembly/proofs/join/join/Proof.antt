@@ -1,5 +1,5 @@
 -- Why `join` meets its contract: with a gap and without.
-use Rattle.reassembly.specs.Join.{joinOf}
+use Rattle.reassembly.specs.Join.{heardAt, joinOf}
 use borrow.Author.Needs.{needs}
 use Rattle.reassembly.proofs.join.join.Statement.{statement}
 use Rattle.reassembly.proofs.join.join.Tie as tie
@@ -7,21 +7,25 @@ use Rattle.reassembly.proofs.join.join.Tie as tie
 is-gap-requires : tie.Need-is-gap-requires
 is-gap-requires c κs = search needs
 
+hear-requires : tie.Need-hear-requires
+hear-requires c κs = search needs
+
 act-requires : tie.Need-act-requires
 act-requires c κs = search needs
 
 returns : tie.Need-returns
-unfolding joinOf
+unfolding heardAt joinOf
 returns c =
-    rw
-    (← c .before .before .before .before .before .is-gap .ensures, c .before .before .before .before .if1 .taken, c .before .act .ensures)
-
-act-requires-2 : tie.Need-act-requires-2
-act-requires-2 c κs = search needs
+    let a = c .before .before in
+    let h = a .before in
+    rw (a .act .ensures, h .hear .ensures, ← h .before .is-gap .ensures, c .before .if1 .taken)
 
 returns-2 : tie.Need-returns-2
-unfolding joinOf
-returns-2 c = rw (← c .before .before .is-gap .ensures, c .before .if1 .left) (c .act2 .ensures)
+unfolding heardAt joinOf
+returns-2 c =
+    let a = c .before in
+    let h = a .before in
+    rw (a .act .ensures, h .hear .ensures, ← h .before .is-gap .ensures, c .if1 .left)
 
 pub join-spec : {M : Type 1} → statement M
-join-spec = tie.close (tie.spec is-gap-requires act-requires returns act-requires-2 returns-2)
+join-spec = tie.close (tie.spec is-gap-requires hear-requires act-requires returns returns-2)
