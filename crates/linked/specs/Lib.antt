@@ -1,0 +1,3 @@
+-- What the functions of C linkage answer and leave.
+pub mod Calls
+pub mod Answers
