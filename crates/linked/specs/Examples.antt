@@ -53,6 +53,6 @@ Counts =
 counts : Counts
 unfolding be partOf tab allBelow blankLayout firstFrom lookupOf unheard lostOf takenOf turnOf advancedOf slotAdvanced left before
     twiceBelow twice freshState startRefusal startOf frameBusy lossOf lostFrameOf shortBy refusalOf slotOf packetOf readOn readAll
-    nextOf letterOf slotSize sizeOf whole idsOf configOf freshSession callOf afterCall doneOf tallied closed callComes nextCall stepOf
-    callsBy callsOf
+    nextOf letterOf slotSize sizeOf whole idsOf configOf freshSession callOf afterCall doneOf tallied closed callComes nextCall
+    stepOf callsBy callsOf
 counts = (refl, refl, refl, refl, refl, refl, refl, refl, refl, refl, refl)
