@@ -112,7 +112,7 @@ fn refused_slots() {
         }
         let any = rng.u64() as usize;
         // A product with L that does not fit 64 bits, or fits but comes to a small number.
-        let wraps = usize::MAX / l.max(1) + rng.below(2);
+        let wraps = (usize::MAX / l.max(1)).saturating_add(rng.below(2));
         let past = rng.pick(&[whole, whole + 1, any, wraps, usize::MAX]);
         let s = if rng.chance(1, 3) {
             past
