@@ -39,6 +39,8 @@ pub struct Capture {
     partial: Vec<u8>,
     packet_memory: Vec<u8>,
     collecting: Vec<u8>,
+    /// Next is called until nothing waits.
+    owed: bool,
     frames: u64,
     slot: u64,
     units: u64,
@@ -47,20 +49,50 @@ pub struct Capture {
 
 impl Default for Capture {
     fn default() -> Self {
+        Capture::with_memories(vec![0; PACKET_MEMORY], vec![0; COLLECTING])
+    }
+}
+
+impl Capture {
+    /// A capture that is lent these memories.
+    pub fn with_memories(packet_memory: Vec<u8>, collecting: Vec<u8>) -> Self {
         Capture {
             stage: Stage::Fresh,
             partial: Vec::new(),
-            packet_memory: vec![0; PACKET_MEMORY],
-            collecting: vec![0; COLLECTING],
+            packet_memory,
+            collecting,
+            owed: false,
             frames: 0,
             slot: 0,
             units: 0,
             notes: 0,
         }
     }
-}
 
-impl Capture {
+    /// Packet memory and collecting memory.
+    pub fn memories(&self) -> (&[u8], &[u8]) {
+        (&self.packet_memory, &self.collecting)
+    }
+
+    /// Makes one call, of next where it is owed, else that of the first command of `rest`; gives the
+    /// bytes behind it, or none where no call is made.
+    pub fn call_once<'a>(&mut self, rest: &'a [u8], lines: &mut Vec<u8>) -> Option<&'a [u8]> {
+        if self.owed {
+            self.call_next(lines);
+            return Some(rest);
+        }
+        if rest.is_empty() || self.ended() {
+            return None;
+        }
+        match self.command(rest) {
+            Command::Known(len) if len <= rest.len() => {
+                self.call_command(&rest[..len], lines);
+                Some(&rest[len..])
+            }
+            _ => None,
+        }
+    }
+
     /// Whether further bytes can change nothing.
     pub fn ended(&self) -> bool {
         matches!(self.stage, Stage::Ended)
@@ -123,24 +155,39 @@ impl Capture {
         }
     }
 
+    /// A whole command, and then next until nothing waits.
     fn carry_out(&mut self, command: &[u8], lines: &mut Vec<u8>) {
-        if let Err(number) = self.call(command, lines) {
-            put_line(lines, b"refused", &[u64::from(number)], b"");
-            self.stage = Stage::Ended;
+        self.call_command(command, lines);
+        while self.owed {
+            self.call_next(lines);
         }
     }
 
-    fn call(&mut self, command: &[u8], lines: &mut Vec<u8>) -> Result<(), Refusal> {
+    fn refused(&mut self, number: Refusal, lines: &mut Vec<u8>) {
+        put_line(lines, b"refused", &[u64::from(number)], b"");
+        self.stage = Stage::Ended;
+        self.owed = false;
+    }
+
+    fn call_command(&mut self, command: &[u8], lines: &mut Vec<u8>) {
+        match self.call(command) {
+            Ok(owed) => self.owed = owed,
+            Err(number) => self.refused(number, lines),
+        }
+    }
+
+    /// The command's call; whether next is owed after it.
+    fn call(&mut self, command: &[u8]) -> Result<bool, Refusal> {
         let Stage::Running(receiver) = &mut self.stage else {
             self.stage = Stage::Running(Box::new(start(command)?));
-            return Ok(());
+            return Ok(false);
         };
         match command[0] {
             b'F' => {
                 receiver.frame(&command[1..])?;
                 self.frames += 1;
                 self.slot = 0;
-                return Ok(());
+                return Ok(false);
             }
             b'X' => {
                 receiver.lost_frame()?;
@@ -156,40 +203,35 @@ impl Capture {
                 self.slot += 1;
             }
         }
-        self.drain(lines)
+        Ok(true)
     }
 
-    /// Calls next until nothing waits.
-    fn drain(&mut self, lines: &mut Vec<u8>) -> Result<(), Refusal> {
+    /// One call of next, and its line.
+    fn call_next(&mut self, lines: &mut Vec<u8>) {
         let Stage::Running(receiver) = &mut self.stage else {
-            return Ok(());
+            return;
         };
         let place = [self.frames, self.slot];
-        loop {
-            match receiver.next(&self.packet_memory, &mut self.collecting)? {
-                Event::Nothing => return Ok(()),
-                Event::Note { number, packet_id } => {
-                    self.notes += 1;
-                    put_numbers(lines, &place);
-                    match packet_id {
-                        Some(id) => put_line(lines, b"note", &[number.into(), id.into()], b""),
-                        None => put_line(lines, b"note", &[number.into()], b" -"),
-                    }
-                }
-                Event::Unit(unit) => {
-                    self.units += 1;
-                    let shown = calls::show(&unit, &self.packet_memory, &self.collecting);
-                    put_numbers(lines, &place);
-                    let (id, kind) = (unit.packet_id.into(), unit.kind.into());
-                    let (psn, mpu) = (unit.psn.into(), unit.mpu.into());
-                    put_line(
-                        lines,
-                        b"unit",
-                        &[id, kind, psn, mpu, shown.len() as u64],
-                        b"",
-                    );
+        match receiver.next(&self.packet_memory, &mut self.collecting) {
+            Ok(Event::Nothing) => self.owed = false,
+            Ok(Event::Note { number, packet_id }) => {
+                self.notes += 1;
+                put_numbers(lines, &place);
+                match packet_id {
+                    Some(id) => put_line(lines, b"note", &[number.into(), id.into()], b""),
+                    None => put_line(lines, b"note", &[number.into()], b" -"),
                 }
             }
+            Ok(Event::Unit(unit)) => {
+                self.units += 1;
+                let shown = calls::show(&unit, &self.packet_memory, &self.collecting);
+                put_numbers(lines, &place);
+                let (id, kind) = (unit.packet_id.into(), unit.kind.into());
+                let (psn, mpu) = (unit.psn.into(), unit.mpu.into());
+                let length = shown.len() as u64;
+                put_line(lines, b"unit", &[id, kind, psn, mpu, length], b"");
+            }
+            Err(number) => self.refused(number, lines),
         }
     }
 }

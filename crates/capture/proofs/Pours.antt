@@ -24,7 +24,7 @@ stays : (s : Session) (p c out : List ℕ) (at : ℕ) → at ≤ length out → 
 stays s p c out at h = record { text = []; written = sym (wrote-none out at); within = omega arith; owed = refl }
 
 -- next is not owed any more after an event that is no line
-closed-idle : (s : Session) (e : Event) → isLine e ≡ false → busy (closed s e) ≡ false
+pub closed-idle : (s : Session) (e : Event) → isLine e ≡ false → busy (closed s e) ≡ false
 unfolding closed
 closed-idle s Nothing i = and-false (isReading (s .phase))
 closed-idle s (Note n id) i = absurd (true≢false i)

@@ -17,7 +17,7 @@ use receiver::answer::Called;
 use receiver::state::State;
 
 // Whether the command may stand here: C first and once.
-fn is_fit(phase: Phase, letter: Letter) -> bool
+pub fn is_fit(phase: Phase, letter: Letter) -> bool
     ensures { λ r. ⌜ r ≡ fits phase letter ⌝ }
 {
     match phase {

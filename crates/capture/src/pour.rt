@@ -70,7 +70,7 @@ fn put_event(out: &mut [u8], at: usize, tally: Tally, event: Event) -> usize
     }
 }
 
-fn count(tally: Tally, event: Event) -> Tally
+pub fn count(tally: Tally, event: Event) -> Tally
     ensures { λ r. ⌜ r ≡ tallied tally event ⌝ }
 {
     match event {
@@ -88,7 +88,7 @@ fn count(tally: Tally, event: Event) -> Tally
 }
 
 // The session after an event that is no line.
-fn close(session: Session, event: Event) -> Session
+pub fn close(session: Session, event: Event) -> Session
     ensures { λ r. ⌜ r ≡ closed session event ⌝ }
 {
     match event {

@@ -1,0 +1,5 @@
+-- What the functions of C linkage answer and leave.
+pub mod Calls
+pub mod Answers
+pub mod Claims
+pub mod Examples

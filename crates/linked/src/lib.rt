@@ -1,0 +1,4 @@
+// Functions of C linkage, for programs in Rust or C to link.
+pub mod calls;
+pub mod cut;
+pub mod pack;

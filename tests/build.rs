@@ -1,0 +1,15 @@
+//! Links the proved library into the tests, if LINKED_LIB names its archive (a path to liblinked.a).
+
+use std::env;
+
+fn main() {
+    println!("cargo:rerun-if-changed=build.rs");
+    println!("cargo:rerun-if-env-changed=LINKED_LIB");
+    println!("cargo:rustc-check-cfg=cfg(linked)");
+    let Ok(library) = env::var("LINKED_LIB") else {
+        return;
+    };
+    println!("cargo:rerun-if-changed={library}");
+    println!("cargo:rustc-link-arg-tests={library}");
+    println!("cargo:rustc-cfg=linked");
+}

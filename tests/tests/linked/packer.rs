@@ -1,0 +1,152 @@
+//! The packer: answer and whole output memory, of units that it takes and of refused ones.
+
+use second::generate::prng::Prng;
+use second::packer::{pack, Head, Numbers, MAX_PIECE};
+use second::packets::{fields_len, UnitFields, KIND_ITEM, KIND_SIGNALLING};
+
+use super::library;
+
+const COUNT: u64 = 5_000;
+
+/// What a call of the packer is given.
+struct Call {
+    unit: library::Unit,
+    cid: u16,
+    sn: u8,
+    m: usize,
+    bytes: Vec<u8>,
+    /// The output's length, and its filling.
+    output: Vec<u8>,
+}
+
+/// Fields of any value, also those that the kind lacks; an item id that is no movie fragment number.
+fn unit(rng: &mut Prng) -> library::Unit {
+    let psn = rng.u32();
+    library::Unit {
+        packet_id: rng.u16(),
+        kind: rng.below(5) as u8,
+        psn: rng.pick(&[0, u32::MAX - 3, u32::MAX, psn]),
+        mpu: rng.u32(),
+        fields: UnitFields {
+            fragment: rng.u32(),
+            sample: rng.u32(),
+            offset: rng.u32(),
+            priority: rng.byte(),
+            dependency: rng.byte(),
+        },
+        item: rng.u32(),
+    }
+}
+
+/// Bytes of a piece size of `m`: none, around whole pieces, up to 256 of them.
+fn len(rng: &mut Prng, m: usize) -> usize {
+    let pieces = rng.pick(&[0, 1, 1, 2, 3, 20, 255, 256]);
+    let whole = m * pieces;
+    match rng.below(4) {
+        0 => whole,
+        1 => whole.saturating_sub(1),
+        2 => (whole + 1).min(256 * m),
+        _ => rng.below(whole + 1),
+    }
+}
+
+/// The length of the packets of `len` bytes in pieces of `m`.
+fn written(kind: u8, len: usize, m: usize) -> usize {
+    let payload_header = if kind == KIND_SIGNALLING { 2 } else { 8 };
+    let before = 4 + 3 + 12 + payload_header + fields_len(kind);
+    len.div_ceil(m).max(1) * before + len
+}
+
+/// A call that is accepted.
+fn legal(rng: &mut Prng) -> Call {
+    let unit = unit(rng);
+    let any = rng.range(1, MAX_PIECE);
+    let m = rng.pick(&[1, 2, 3, 100, 1_399, MAX_PIECE, any]);
+    let len = len(rng, m);
+    let room = written(unit.kind, len, m) + rng.pick(&[0, 0, 1, 500]);
+    let cid = rng.u16() & 0xFFF;
+    Call {
+        unit,
+        cid: rng.pick(&[0, 0xFFF, cid]),
+        sn: rng.byte(),
+        m,
+        bytes: rng.bytes(len),
+        output: rng.bytes(room),
+    }
+}
+
+/// Spoils some of what the call is given, so that most are refused, by the first of several numbers.
+fn spoil(rng: &mut Prng, call: &mut Call) {
+    if rng.chance(1, 4) {
+        call.m = rng.pick(&[0, MAX_PIECE + 1, 65_536, usize::MAX]);
+    }
+    if rng.chance(1, 4) {
+        call.unit.kind = rng.pick(&[5, 6, 8, 0x80, 0xFF]);
+    }
+    if rng.chance(1, 3) {
+        call.m = call.m.min(100);
+        let more = rng.pick(&[1, 1, 2, 1_000]);
+        call.bytes = rng.bytes(256 * call.m + more);
+    }
+    if rng.chance(1, 3) {
+        let short = rng.range(1, call.output.len().max(1));
+        let less = rng.pick(&[1, 1, short]);
+        call.output.truncate(call.output.len().saturating_sub(less));
+    }
+    if rng.chance(1, 3) {
+        call.cid |= 0x1000 << rng.below(4);
+    }
+}
+
+/// The refusal, or 0, of both packers; their outputs are compared whole.
+fn compare(call: &Call) -> u8 {
+    let Call {
+        unit, cid, sn, m, ..
+    } = *call;
+    let mut fields = unit.fields;
+    if unit.kind == KIND_ITEM {
+        fields.fragment = unit.item;
+    }
+    let head = Head {
+        packet_id: unit.packet_id,
+        kind: unit.kind,
+        mpu: unit.mpu,
+        fields,
+    };
+    let psn = unit.psn;
+    let (mut ours, mut theirs) = (call.output.clone(), call.output.clone());
+    let answer = pack(&head, &call.bytes, m, Numbers { cid, sn, psn }, &mut ours);
+    let other = library::pack(&unit, cid, sn, m, &call.bytes, &mut theirs);
+    let place = format!(
+        "{unit:?}, CID {cid}, SN {sn}, m {m}, {} bytes",
+        call.bytes.len()
+    );
+    match answer {
+        Ok(len) => assert_eq!(other, (0, len as u64), "{place}"),
+        Err(number) => assert_eq!(other, (number, 0), "{place}"),
+    }
+    assert!(ours == theirs, "{place}: output");
+    answer.err().unwrap_or(0)
+}
+
+#[test]
+fn units_that_are_taken() {
+    for number in 0..COUNT {
+        let mut rng = Prng::new(number);
+        assert_eq!(compare(&legal(&mut rng)), 0);
+    }
+}
+
+#[test]
+fn refused_units() {
+    let mut seen = [0; 256];
+    for number in 0..COUNT {
+        let mut rng = Prng::new(number ^ 0xBAD);
+        let mut call = legal(&mut rng);
+        spoil(&mut rng, &mut call);
+        seen[usize::from(compare(&call))] += 1;
+    }
+    println!("0 {}, 70 to 74 {:?}", seen[0], &seen[70..75]);
+    assert!(seen[70..75].iter().all(|&count| count > 100));
+    assert_eq!(seen[0] + seen[70..75].iter().sum::<u64>(), COUNT);
+}
