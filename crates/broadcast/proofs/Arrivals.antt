@@ -32,7 +32,8 @@ use Rattle.broadcast.specs.Frames.{
 use Rattle.broadcast.specs.Demand3.{kept}
 use Rattle.broadcast.proofs.AccountLoss.{lost-many}
 use Rattle.broadcast.proofs.Items.{right-length}
-use Rattle.broadcast.proofs.Reading.{SlotsFit, FramesFit}
+use Rattle.broadcast.proofs.SlotCalls.{SlotsFit}
+use Rattle.broadcast.proofs.Reading.{FramesFit}
 
 intact-append : {A : Type 0} (a b : List (A × Slot)) → intact (a ++ b) ≡ intact a ++ intact b
 intact-append [] b = refl

@@ -93,7 +93,8 @@ use Rattle.broadcast.specs.Broadcast.{
   BroadcastClaims,
 }
 use Rattle.broadcast.specs.Machines.{At}
-use Rattle.broadcast.proofs.Reading.{SlotsFit, FramesFit}
+use Rattle.broadcast.proofs.SlotCalls.{SlotsFit}
+use Rattle.broadcast.proofs.Reading.{FramesFit}
 use Rattle.broadcast.proofs.Arrivals.{damage-account}
 use Rattle.broadcast.proofs.Demand3.{start-at, shows-account, made, demand-3}
 

@@ -174,7 +174,8 @@ slot-tells cfg p c b e h =
 
 -- the first slot of an undamaged reading was accepted
 enough : (cfg : Config) (f : Frame) (fs : List Frame) (p c : List ℕ) (xs : List Made) → startOf cfg .refusal ≡ 0 → length (f .slots) ≡ 120
-    → Reads cfg (f ∷ fs) none p c xs → refusedOf cfg (f ∷ fs) none p c xs ≡ [] → (21433 ≤ length p) × (cfg .watch .n * cfg .limit ≤ length c)
+    → Reads cfg (f ∷ fs) none p c xs → refusedOf cfg (f ∷ fs) none p c xs ≡ []
+    → (21433 ≤ length p) × (cfg .watch .n * cfg .limit ≤ length c)
 unfolding reading slotsTodo
 enough cfg f fs p c xs e n h q = go (f .slots) n h q
   where
@@ -217,8 +218,8 @@ module _ (cfg : Config) (e : startOf cfg .refusal ≡ 0) (fs : List Frame) (w : 
   made = let r = frames-made cfg d 0 fs blankLayout (started cfg p c) searching (λ k. fresh) at w in (r .calls, r .follows)
 
 -- the theorem for frames that fit
-module _ (cfg : Config) (e : startOf cfg .refusal ≡ 0) (fs : List Frame) (w : FramesFit (cfg .stream) fs) (d : Damage) (p₁ c₁ p₂ c₂ : List ℕ)
-    (at₁ : At {A = ℕ × ℕ} cfg (started cfg p₁ c₁) searching (λ k. fresh) blankLayout 120)
+module _ (cfg : Config) (e : startOf cfg .refusal ≡ 0) (fs : List Frame) (w : FramesFit (cfg .stream) fs) (d : Damage)
+    (p₁ c₁ p₂ c₂ : List ℕ) (at₁ : At {A = ℕ × ℕ} cfg (started cfg p₁ c₁) searching (λ k. fresh) blankLayout 120)
     (at₂ : At {A = ℕ × ℕ} cfg (started cfg p₂ c₂) searching (λ k. fresh) blankLayout 120) (xs : List Made) (h : Reads cfg fs none p₁ c₁ xs)
     (q : NoNote (shownOf cfg fs none p₁ c₁ xs)) (few : Few cfg (slotsOf cfg fs)) where
   undamaged-shows : shownOf cfg fs none p₁ c₁ xs ≡ map strip (account cfg (intact (slotsOf cfg fs)))
@@ -265,7 +266,8 @@ no-frames cfg d p₁ c₁ p₂ c₂ xs h =
       undamaged = ap unitsOf (nothing-left cfg (started cfg p₁ c₁) xs h .0) ∙ sym (ap contents (no-units cfg));
       damaged = λ ys k.
           let n = nothing-left cfg (started cfg p₂ c₂) ys k in
-          record { none-refused = n .1; units-left = ap unitsOf (n .0) ∙ sym (ap (λ us. contents (intactUnits (kept d) us)) (no-units cfg)) };
+          let u = ap (λ us. contents (intactUnits (kept d) us)) (no-units cfg) in
+          record { none-refused = n .1; units-left = ap unitsOf (n .0) ∙ sym u };
       readable = ([], refl);
     }
 

@@ -153,7 +153,8 @@ module _ {A : Type 0} (cfg : Config) (fr : Frame) (p : List ℕ)
   waits o e = o .shows ∙ ap (λ (l : List Shown). l ++ map strip (events cfg (o .now) (o .waiting))) e
 
   module _ (more : State → List ℕ → Out) (n : ℕ)
-      (again : (es : List Shown) (st : State) (c : List ℕ) → left (st .cursor) < n → Owes cfg fr p es tl f st c → ToldOut es (more st c)) where
+      (again : (es : List Shown) (st : State) (c : List ℕ) → left (st .cursor) < n → Owes cfg fr p es tl f st c
+      → ToldOut es (more st c)) where
     -- what was found, the queue being empty; st has the cursor past it
     found-told : (x : Found) (es : List Shown) (st : State) (c : List ℕ) (cur : Cursor) → left (st .cursor) < suc n
         → Owes cfg fr p es tl f st c → QueueEmpty (st .queue) → queuePending (st .queue) p c ≡ []
@@ -207,7 +208,8 @@ module _ {A : Type 0} (cfg : Config) (fr : Frame) (p : List ℕ)
               ∙ ap (λ (l : List Shown). l ++ map strip (events cfg (y .lines) (w .rest))) (sym (d .events));
           leaves = rw (d .cursor, d .held) (rw (a .leaves) at (o .leaves));
           ends =
-              ap (λ (x : List ℕ). linesAfter cfg (afterRead cfg (readOf cfg x) (o .now) (w .labelled .labels) .lines) (w .rest)) (sym (w .bytes))
+              ap (λ (x : List ℕ). linesAfter cfg (afterRead cfg (readOf cfg x) (o .now) (w .labelled .labels) .lines) (w .rest))
+              (sym (w .bytes))
               ∙ ap (linesAfter cfg (o .now)) (sym (w .first)) ∙ o .ends;
         })
     found-told (Tail s l) es st c cur h o q e a =
@@ -286,7 +288,8 @@ module _ {A : Type 0} (cfg : Config) (fr : Frame) (p : List ℕ)
   next-reads st c e o h = rw (e, o, le-ltb _ _ long, le-ltb _ _ h)
 
   settle-by : (es : List Shown) (st st' : State) (c c' : List ℕ) (e : Event) → nextOf st p c ≡ (record { event = e; state = st' }, c')
-      → Told es e st' c' → ((xs : List Shown) (x : Shown) → es ≡ x ∷ xs → Owes cfg fr p xs tl f st' c' → Settles cfg fr p tl f xs st' c') → Settles cfg fr p tl f es st c
+      → Told es e st' c' → ((xs : List Shown) (x : Shown) → es ≡ x ∷ xs → Owes cfg fr p xs tl f st' c' → Settles cfg fr p tl f xs st' c')
+      → Settles cfg fr p tl f es st c
   settle-by es st st' c c' Nothing q t h =
       record {
         state = st';

@@ -20,6 +20,7 @@ pub mod EventCount
 pub mod Draining
 pub mod Items
 pub mod Bound
+pub mod SlotCalls
 pub mod Reading
 pub mod Arrivals
 pub mod Demand3

@@ -1,8 +1,8 @@
 -- A reading of frames, whole or damaged: none of its calls is refused, and it shows what the account says.
-use Prim.Native.Nat.{ℕ, suc, _+_, _<_}
+use Prim.Native.Nat.{ℕ, suc, _+_}
 use mathlib.Core.Path.{_≡_, refl, sym, ap, _∙_, subst}
 use mathlib.Core.Bool.{Bool, true, false, cond}
-use mathlib.Core.List.{List, [], _∷_, _++_, map, map-append, append-assoc}
+use mathlib.Core.List.{List, [], _∷_, _++_, map}
 use native.Mathlib.Omega.{arith}
 use lib.ListN.{length, getD}
 use borrow.Author.Tests.{eq-eqb, eqb-true}
@@ -11,7 +11,7 @@ use Rattle.tmcc.specs.declared.layout.Layout.{Layout}
 use Rattle.tmcc.specs.Block.{decodeOf}
 use Rattle.tmcc.proofs.Laws.{accepted as tmcc-accepted}
 use Rattle.tlv.proofs.Runs.{run-append}
-use Rattle.tlv.specs.Run.{Stepped, State as Slot-state, Arrival, given, lost, step, run, stateAfter, Event as Slot-event}
+use Rattle.tlv.specs.Run.{State as Slot-state, Arrival, lost, step, run, stateAfter}
 use Rattle.reassembly.specs.declared.config.Config.{Config}
 use Rattle.reassembly.specs.Run.{Line}
 use Rattle.receiver.specs.declared.state.Frame.{Frame as ReceiverFrame}
@@ -19,7 +19,7 @@ use Rattle.receiver.specs.declared.state.State.{State}
 use Rattle.receiver.specs.State.{withFrame, refused as refusedWith, accepted as acceptedAs}
 use Rattle.receiver.specs.Frame.{frameBusy, frameOf}
 use Rattle.receiver.specs.Slot.{wrongLength, refusalOf, slotOf, slotTaken, dueLength, dueOwn, duePointers}
-use Rattle.broadcast.specs.Account.{events, linesAfter, afterEvent}
+use Rattle.broadcast.specs.Account.{events, linesAfter}
 use Rattle.broadcast.specs.Drains.{Shown, strip}
 use Rattle.broadcast.specs.Calls.{
   Machine,
@@ -44,87 +44,25 @@ use Rattle.broadcast.specs.Calls.{
   refusals,
   noteShown,
   refusalIn,
-  Answer,
 }
 use Rattle.broadcast.specs.Frames.{
   Frame,
   Whole,
   Damage,
   none,
-  slotCall,
   slotsTodo,
   frameTodo,
   reading,
-  slotAt,
-  ifOwn,
-  arriving,
   slotsArrive,
   layoutIn,
   frameArrives,
   arrivals,
 }
-use Rattle.broadcast.proofs.Script.{Left, Makes, call-follows, drain-follows, call-made, drain-made}
+use Rattle.broadcast.proofs.Script.{Left, Makes, call-follows, call-made}
 use Rattle.broadcast.specs.Machines.{At}
-use Rattle.broadcast.proofs.Items.{Item, due, own-item, lost-item, lost-frame-item, other-item, other-lost-item}
-
--- one list of slot events behind another
-module _ {A : Type 0} (cfg : Config) where
-  pub events-append : (f : ℕ → Line (List A)) (a b : List (Slot-event A))
-      → events cfg f (a ++ b) ≡ events cfg f a ++ events cfg (linesAfter cfg f a) b
-  unfolding events linesAfter
-  events-append f [] b = refl
-  events-append f (x ∷ a) b =
-      let r = afterEvent cfg x f in
-      ap (λ l. r .events ++ l) (events-append (r .lines) a b)
-      ∙ sym (append-assoc (r .events) (events cfg (r .lines) a) (events cfg (linesAfter cfg (r .lines) a) b))
-
-  pub lines-append : (f : ℕ → Line (List A)) (a b : List (Slot-event A))
-      → linesAfter cfg f (a ++ b) ≡ linesAfter cfg (linesAfter cfg f a) b
-  unfolding linesAfter
-  lines-append f [] b = refl
-  lines-append f (x ∷ a) b = lines-append (afterEvent cfg x f .lines) a b
-
--- one thing prescribed after another
-then : {ts ts' : List Todo} {m m' : Machine} {es es' : List Shown} {all : List Shown} {ref : List ℕ} → Left ts m es [] all ref
-    → ((xs : List Made) → Follows ts m xs → Left ts' m' es' [] (allShown ts m xs) (refusals ts m xs)) → Left ts' m' (es ++ es') [] all ref
-then {es = es} {es' = es'} l h =
-    let k = h (l .calls) (l .follows) in
-    record {
-      calls = k .calls;
-      follows = k .follows;
-      shows-on = l .shows-on ∙ ap (λ r. es ++ r) (k .shows-on) ∙ sym (append-assoc es es' (allShown _ _ (k .calls)));
-      refuses-on = l .refuses-on ∙ k .refuses-on;
-    }
-
--- a call that is accepted, with next until nothing waits
-module _ {A : Type 0} (cfg : Config) (m : Machine) (k : Call) (tl : Slot-state A) (f : ℕ → Line (List A)) (es : List Shown) (l : Layout)
-    (s : ℕ) (i : Item cfg m k tl f es l s) where
-  abbrev machineThen : Machine
-  machineThen = record { state = i .state; packet = did k m .machine .packet; collecting = i .collecting }
-
-  accepted-left : (a : Answer) → a ≡ accepted → (noteShown a ≡ []) × (refusalIn a ≡ [])
-  accepted-left a e = (rw e, rw e)
-
-  pub item-follows : (ts : List Todo) (xs : List Made) → Follows (call k ∷ drain ∷ ts) m xs
-      → Left ts machineThen es [] (allShown (call k ∷ drain ∷ ts) m xs) (refusals (call k ∷ drain ∷ ts) m xs)
-  item-follows ts xs h =
-      let c = call-follows k (drain ∷ ts) m xs h in
-      let n = accepted-left (did k m .answer) (i .answer) in
-      let d = drain-follows (c .calls) ts (did k m .machine .packet) (i .drains) (c .follows) in
-      record {
-        calls = d .calls;
-        follows = d .follows;
-        shows-on = c .shows-on ∙ ap (λ r. r ++ allShown (drain ∷ ts) (did k m .machine) (c .calls)) (n .0) ∙ d .shows-on;
-        refuses-on = c .refuses-on ∙ ap (λ r. r ++ refusals (drain ∷ ts) (did k m .machine) (c .calls)) (n .1) ∙ d .refuses-on;
-      }
-
-  pub item-made : (ts : List Todo) → Makes ts machineThen → Makes (call k ∷ drain ∷ ts) m
-  item-made ts h = call-made (drain ∷ ts) m k (drain-made ts (did k m .machine .packet) (i .drains) h)
-
--- the slots from number s on have their data lengths
-abbrev pub SlotsFit : Layout → ℕ → List (List ℕ) → Type 0
-SlotsFit l s [] = Unit {0}
-SlotsFit l s (d ∷ ds) = (wrongLength (getD (l .lengths) s 0) (length d) ≡ false) × SlotsFit l (suc s) ds
+use Rattle.broadcast.proofs.Items.{due, lost-frame-item}
+use Rattle.broadcast.proofs.SlotCalls.{item-follows, item-made, SlotsFit, Went, slot-step, shown-on, went-on, slots-read}
+use Rattle.broadcast.proofs.SlotCalls.{slots-made}
 
 -- frames whose blocks are accepted and whose slots have their lengths
 abbrev pub FramesFit : ℕ → List Frame → Type 0
@@ -133,131 +71,7 @@ FramesFit stream (r ∷ rs) =
     (decodeOf (r .block) stream .refusal ≡ 0) × (length (r .slots) ≡ 120) × SlotsFit (layoutIn stream r) 0 (r .slots)
     × FramesFit stream rs
 
--- what a reading leaves: the machine, and the state of the account after the arrivals xs
-pub record Went {A : Type 0} (cfg : Config) (tl : Slot-state A) (f : ℕ → Line (List A)) (xs : List (Arrival A)) (ts : List Todo)
-    (all : List Shown) (ref : List ℕ) (l : Layout) (n : ℕ) : Type 0 where
-  pub machine : Machine
-  pub at : At cfg machine (stateAfter tl xs) (linesAfter cfg f (run tl xs)) l n
-  pub left : Left ts machine (map strip (events cfg f (run tl xs))) [] all ref
-
 module _ (cfg : Config) where
-  -- a slot's call, and what arrives of it
-  pub record Step (m : Machine) (tl : Slot-state (ℕ × ℕ)) (f : ℕ → Line (List (ℕ × ℕ))) (l : Layout) (s : ℕ) (k : Call)
-      (arr : List (Arrival (ℕ × ℕ))) : Type 0 where
-    pub does : Stepped (ℕ × ℕ)
-    pub item : Item cfg m k (does .state) (linesAfter cfg f (does .events)) (map strip (events cfg f (does .events))) l (suc s)
-    pub runs : (xs : List (Arrival (ℕ × ℕ))) → run tl (arr ++ xs) ≡ does .events ++ run (does .state) xs
-    pub ends : (xs : List (Arrival (ℕ × ℕ))) → stateAfter tl (arr ++ xs) ≡ stateAfter (does .state) xs
-
-  module _ (m : Machine) (tl : Slot-state (ℕ × ℕ)) (f : ℕ → Line (List (ℕ × ℕ))) (l : Layout) (i s : ℕ) (d : List ℕ)
-      (a : At cfg m tl f l s) (h : s < 120) where
-    step-by : (gone own : Bool) → (gone ≡ false → wrongLength (getD (l .lengths) s 0) (length d) ≡ false) → getD (l .own) s false ≡ own
-        → Step m tl f l s (slotCall gone d) (cond own (arriving gone (i, s) (slotAt l s d) ∷ []) [])
-    unfolding run stateAfter
-    step-by true true w o =
-        record {
-          does = step tl lost;
-          item = lost-item cfg m tl f l s a h o;
-          runs = λ xs. refl;
-          ends = λ xs. refl;
-        }
-    step-by true false w o =
-        record {
-          does = record { state = tl; events = [] };
-          item = other-lost-item cfg m tl f l s a h o;
-          runs = λ xs. refl;
-          ends = λ xs. refl;
-        }
-    step-by false true w o =
-        record {
-          does = step tl (given (i, s) (slotAt l s d));
-          item =
-              own-item cfg m tl f l (i, s) s d a h o (w refl);
-          runs = λ xs. refl;
-          ends = λ xs. refl;
-        }
-    step-by false false w o =
-        record {
-          does = record { state = tl; events = [] };
-          item = other-item cfg m tl f l s d a h o (w refl);
-          runs = λ xs. refl;
-          ends = λ xs. refl;
-        }
-
-    pub slot-step : (gone : Bool) → (gone ≡ false → wrongLength (getD (l .lengths) s 0) (length d) ≡ false)
-        → Step m tl f l s (slotCall gone d) (ifOwn l s (arriving gone (i, s) (slotAt l s d)))
-    slot-step gone w = step-by gone (getD (l .own) s false) w refl
-
-  -- what was shown for slot events y, and then for the arrivals xs
-  pub shown-on : (tl : Slot-state (ℕ × ℕ)) (f : ℕ → Line (List (ℕ × ℕ))) (y : Stepped (ℕ × ℕ)) (as' xs : List (Arrival (ℕ × ℕ)))
-      → run tl as' ≡ y .events ++ run (y .state) xs
-      → map strip (events cfg f (run tl as'))
-      ≡ map strip (events cfg f (y .events)) ++ map strip (events cfg (linesAfter cfg f (y .events)) (run (y .state) xs))
-  shown-on tl f y as' xs e =
-      ap (λ r. map strip (events cfg f r)) e ∙ ap (map strip) (events-append cfg f (y .events) (run (y .state) xs))
-      ∙ map-append strip (events cfg f (y .events)) (events cfg (linesAfter cfg f (y .events)) (run (y .state) xs))
-
-  -- an item, and then the rest of a reading
-  pub went-on : (m : Machine) (k : Call) (tl : Slot-state (ℕ × ℕ)) (f : ℕ → Line (List (ℕ × ℕ))) (l : Layout) (s : ℕ) (y : Stepped (ℕ × ℕ))
-      (as' as'' : List (Arrival (ℕ × ℕ))) (us ts : List Todo) (xs : List Made) (n : ℕ)
-      (i : Item cfg m k (y .state) (linesAfter cfg f (y .events)) (map strip (events cfg f (y .events))) l s)
-      → run tl as'' ≡ y .events ++ run (y .state) as' → stateAfter tl as'' ≡ stateAfter (y .state) as'
-      → Follows (call k ∷ drain ∷ us) m xs
-      → ((ys : List Made) → Follows us (record { state = i .state; packet = did k m .machine .packet; collecting = i .collecting }) ys
-      → refusals (call k ∷ drain ∷ us) m xs
-      ≡ refusals us (record { state = i .state; packet = did k m .machine .packet; collecting = i .collecting }) ys
-      → Went cfg (y .state) (linesAfter cfg f (y .events)) as' ts
-      (allShown us (record { state = i .state; packet = did k m .machine .packet; collecting = i .collecting }) ys)
-      (refusals us (record { state = i .state; packet = did k m .machine .packet; collecting = i .collecting }) ys) l n)
-      → Went cfg tl f as'' ts (allShown (call k ∷ drain ∷ us) m xs) (refusals (call k ∷ drain ∷ us) m xs) l n
-  went-on m k tl f l s y as' as'' us ts xs n i e g h rest =
-      let es = map strip (events cfg f (y .events)) in
-      let q = item-follows cfg m k (y .state) (linesAfter cfg f (y .events)) es l s i us xs h in
-      let r = rest (q .calls) (q .follows) (q .refuses-on) in
-      record {
-        machine = r .machine;
-        at = rw (g, e, lines-append cfg f (y .events) (run (y .state) as')) (r .at);
-        left = record {
-          calls = r .left .calls;
-          follows = r .left .follows;
-          shows-on =
-              q .shows-on ∙ ap (λ z. es ++ z) (r .left .shows-on)
-              ∙ sym (append-assoc es (map strip (events cfg (linesAfter cfg f (y .events)) (run (y .state) as'))) _)
-              ∙ ap (λ z. z ++ allShown ts (r .machine) (r .left .calls)) (sym (shown-on tl f y as'' as' e));
-          refuses-on = q .refuses-on ∙ r .left .refuses-on;
-        };
-      }
-
-  slots-read : (gone : ℕ → Bool) (i : ℕ) (ds : List (List ℕ)) (s : ℕ) (l : Layout) (m : Machine) (tl : Slot-state (ℕ × ℕ))
-      (f : ℕ → Line (List (ℕ × ℕ))) (ts : List Todo) (xs : List Made) → At cfg m tl f l s → s + length ds ≡ 120 → SlotsFit l s ds
-      → Follows (slotsTodo gone s ds ++ ts) m xs
-      → Went cfg tl f (slotsArrive l gone i s ds) ts (allShown (slotsTodo gone s ds ++ ts) m xs) (refusals (slotsTodo gone s ds ++ ts) m xs) l 120
-  unfolding slotsTodo slotsArrive run stateAfter events linesAfter
-  slots-read gone i [] s l m tl f ts xs a n w h =
-      record {
-        machine = m;
-        at = subst (λ (k : ℕ). At cfg m tl f l k) (omega (arith, n)) a;
-        left = record { calls = xs; follows = h; shows-on = refl; refuses-on = refl };
-      }
-  slots-read gone i (d ∷ ds) s l m tl f ts xs a n w h =
-      let x = slot-step m tl f l i s d a (omega (arith, n)) (gone s) (λ z. w .0) in
-      let y = x .does in
-      let tail = slotsArrive l gone i (suc s) ds in
-      went-on m (slotCall (gone s) d) tl f l (suc s) y tail _ (slotsTodo gone (suc s) ds ++ ts) ts xs 120 (x .item) (x .runs tail) (x .ends tail) h
-      (λ ys q g. slots-read gone i ds (suc s) l _ (y .state) (linesAfter cfg f (y .events)) ts ys (x .item .at) (omega (arith, n)) (w .1) q)
-
-  -- the same calls can be made
-  slots-made : (gone : ℕ → Bool) (i : ℕ) (ds : List (List ℕ)) (s : ℕ) (l : Layout) (m : Machine) (tl : Slot-state (ℕ × ℕ))
-      (f : ℕ → Line (List (ℕ × ℕ))) (ts : List Todo) → At cfg m tl f l s → s + length ds ≡ 120 → SlotsFit l s ds
-      → ((n : Machine) (u : Slot-state (ℕ × ℕ)) (g : ℕ → Line (List (ℕ × ℕ))) → At cfg n u g l 120 → Makes ts n)
-      → Makes (slotsTodo gone s ds ++ ts) m
-  unfolding slotsTodo
-  slots-made gone i [] s l m tl f ts a n w h = h m tl f (subst (λ (k : ℕ). At cfg m tl f l k) (omega (arith, n)) a)
-  slots-made gone i (d ∷ ds) s l m tl f ts a n w h =
-      let x = slot-step m tl f l i s d a (omega (arith, n)) (gone s) (λ z. w .0) in
-      item-made cfg m (slotCall (gone s) d) (x .does .state) _ _ l (suc s) (x .item) (slotsTodo gone (suc s) ds ++ ts)
-      (slots-made gone i ds (suc s) l _ (x .does .state) _ ts (x .item .at) (omega (arith, n)) (w .1) h)
-
   -- nothing is prescribed any more: only added calls stand there
   pub nothing-left : (m : Machine) (xs : List Made) → Follows [] m xs → (allShown [] m xs ≡ []) × (refusals [] m xs ≡ [])
   nothing-left m [] h = (refl, refl)
@@ -324,7 +138,8 @@ module _ (cfg : Config) where
         record {
           shown-all =
               w .left .shows-on ∙ ap (λ r. map strip (events cfg f (run tl as')) ++ r) (h .shown-all)
-              ∙ sym (shown-on tl f (record { state = stateAfter tl as'; events = run tl as' }) (as' ++ xs) xs (run-append (ℕ × ℕ) tl as' xs .0));
+              ∙ sym (shown-on cfg tl f (record { state = stateAfter tl as'; events = run tl as' }) (as' ++ xs) xs
+              (run-append (ℕ × ℕ) tl as' xs .0));
           refused-none = w .left .refuses-on ∙ h .refused-none;
         }
 
@@ -356,7 +171,7 @@ module _ (cfg : Config) where
           let y = step tl lost in
           let x = lost-frame-item cfg m tl f l a in
           let v =
-          went-on m lost-frame tl f l 120 y [] (lost ∷ []) us us xs 120 x refl refl q
+          went-on cfg m lost-frame tl f l 120 y [] (lost ∷ []) us us xs 120 x refl refl q
           (λ ys h g.
           record {
             machine = record { state = x .state; packet = did lost-frame m .machine .packet; collecting = x .collecting };
@@ -367,9 +182,11 @@ module _ (cfg : Config) where
       frame-read false e n w q =
           let us = reading d (suc i) rs in
           let l' = layoutIn (cfg .stream) r in
-          let c = call-left (frame (r .block)) (slotsTodo (d .slots i) 0 (r .slots) ++ us) m (framed m l') xs (frame-did m tl f l (r .block) a e) q in
+          let b = frame-did m tl f l (r .block) a e in
+          let c = call-left (frame (r .block)) (slotsTodo (d .slots i) 0 (r .slots) ++ us) m (framed m l') xs b q in
           let v =
-          slots-read (d .slots i) i (r .slots) 0 l' (framed m l') tl f us (c .calls) (frame-at m tl f l l' a) (omega (arith, n)) w (c .follows) in
+          slots-read cfg (d .slots i) i (r .slots) 0 l' (framed m l') tl f us (c .calls) (frame-at m tl f l l' a) (omega (arith, n)) w
+          (c .follows) in
           let h = again l' (v .machine) _ _ (v .left .calls) (v .at) (v .left .follows) in
           let g = read-on (suc i) rs tl f (slotsArrive l' (d .slots i) i 0 (r .slots)) _ _ l' v h in
           record { shown-all = c .shows-on ∙ g .shown-all; refused-none = c .refuses-on ∙ g .refused-none }
@@ -381,8 +198,8 @@ module _ (cfg : Config) where
         let n = nothing-left m xs h in
         record { shown-all = n .0; refused-none = n .1 }
     frames-read i (r ∷ rs) l m tl f xs a w h =
-        frame-read i r rs (λ l' m' tl' f' ys b q. frames-read (suc i) rs l' m' tl' f' ys b (w .3) q) l m tl f xs a (d .frames i) (w .0) (w .1)
-        (w .2) h
+        frame-read i r rs (λ l' m' tl' f' ys b q. frames-read (suc i) rs l' m' tl' f' ys b (w .3) q) l m tl f xs a (d .frames i)
+        (w .0) (w .1) (w .2) h
 
     -- such calls can be made
     made-by : (k : Call) (ts : List Todo) (m m' : Machine) → did k m ≡ record { answer = accepted; machine = m' } → Makes ts m'
@@ -400,7 +217,7 @@ module _ (cfg : Config) where
     frame-made i r us l m tl f a false e n w h =
         let l' = layoutIn (cfg .stream) r in
         made-by (frame (r .block)) (slotsTodo (d .slots i) 0 (r .slots) ++ us) m (framed m l') (frame-did m tl f l (r .block) a e)
-        (slots-made (d .slots i) i (r .slots) 0 l' (framed m l') tl f us (frame-at m tl f l l' a) (omega (arith, n)) w (h l'))
+        (slots-made cfg (d .slots i) i (r .slots) 0 l' (framed m l') tl f us (frame-at m tl f l l' a) (omega (arith, n)) w (h l'))
 
     pub frames-made : (i : ℕ) (rs : List Frame) (l : Layout) (m : Machine) (tl : Slot-state (ℕ × ℕ)) (f : ℕ → Line (List (ℕ × ℕ)))
         → At cfg m tl f l 120 → FramesFit (cfg .stream) rs → Makes (reading d i rs) m
@@ -482,12 +299,14 @@ module _ (cfg : Config) where
       let w : wrongLength (getD (l .lengths) s 0) (length d) ≡ false =
       subst (λ (r : ReceiverFrame). wrongLength (getD (r .layout .lengths) (r .at) 0) (length d) ≡ false) (a .frame)
       (slot-accepted (m .state) (m .packet) (m .collecting) d k q) in
-      let x = slot-step m tl f l i s d a (omega (arith, n)) false (λ z. w) in
+      let x = slot-step cfg m tl f l i s d a (omega (arith, n)) false (λ z. w) in
       let y = item-follows cfg m (slot d) (x .does .state) _ _ l (suc s) (x .item) us xs h in
-      (w, slots-fit i ds (suc s) l _ (x .does .state) _ ts (y .calls) (x .item .at) (omega (arith, n)) (y .follows) (sym (y .refuses-on) ∙ e))
+      let z = sym (y .refuses-on) ∙ e in
+      (w, slots-fit i ds (suc s) l _ (x .does .state) _ ts (y .calls) (x .item .at) (omega (arith, n)) (y .follows) z)
 
-  pub frames-fit : (i : ℕ) (rs : List Frame) (l : Layout) (m : Machine) (tl : Slot-state (ℕ × ℕ)) (f : ℕ → Line (List (ℕ × ℕ))) (xs : List Made)
-      → At cfg m tl f l 120 → Whole rs → Follows (reading none i rs) m xs → refusals (reading none i rs) m xs ≡ [] → FramesFit (cfg .stream) rs
+  pub frames-fit : (i : ℕ) (rs : List Frame) (l : Layout) (m : Machine) (tl : Slot-state (ℕ × ℕ)) (f : ℕ → Line (List (ℕ × ℕ)))
+      (xs : List Made) → At cfg m tl f l 120 → Whole rs → Follows (reading none i rs) m xs → refusals (reading none i rs) m xs ≡ []
+      → FramesFit (cfg .stream) rs
   unfolding reading
   frames-fit i [] l m tl f xs a n h e = tt
   frames-fit i (r ∷ rs) l m tl f xs a n h e =
@@ -501,7 +320,7 @@ module _ (cfg : Config) where
       let k = call-left none (frame b) ts m (framed m l') xs (frame-did m tl f l b a z) h in
       let g = frame-at m tl f l l' a in
       let w = slots-fit i (r .slots) 0 l' (framed m l') tl f us (k .calls) g (omega (arith, n .0)) (k .follows) (sym (k .refuses-on) ∙ e) in
-      let v = slots-read given-all i (r .slots) 0 l' (framed m l') tl f us (k .calls) g (omega (arith, n .0)) w (k .follows) in (
+      let v = slots-read cfg given-all i (r .slots) 0 l' (framed m l') tl f us (k .calls) g (omega (arith, n .0)) w (k .follows) in (
         z,
         n .0,
         w,

@@ -69,10 +69,8 @@ use Rattle.broadcast.proofs.Script.{call-follows, not-done}
 use Rattle.broadcast.proofs.Demand3.{start-accepted, start-at, slot-due, slot-tells}
 use Rattle.broadcast.specs.Machines.{At}
 use Rattle.broadcast.proofs.Items.{due, lost-frame-item}
+use Rattle.broadcast.proofs.SlotCalls.{Went, slot-step, went-on, shown-on}
 use Rattle.broadcast.proofs.Reading.{
-  Went,
-  slot-step,
-  went-on,
   nothing-left,
   nil-left,
   nil-right,
@@ -85,7 +83,6 @@ use Rattle.broadcast.proofs.Reading.{
   frame-at,
   framed,
   call-left,
-  shown-on,
 }
 
 module _ (cfg : Config) where
@@ -105,8 +102,8 @@ module _ (cfg : Config) where
   slots-told : (gone : ℕ → Bool) (i : ℕ) (ds : List (List ℕ)) (s : ℕ) (l : Layout) (m : Machine) (tl : Slot-state (ℕ × ℕ))
       (f : ℕ → Line (List (ℕ × ℕ))) (ts : List Todo) (xs : List Made) → At cfg m tl f l s → s + length ds ≤ 120
       → Follows (slotsTodo gone s ds ++ ts) m xs → refusals (slotsTodo gone s ds ++ ts) m xs ≡ []
-      → Went cfg tl f (slotsArrive l gone i s ds) ts (allShown (slotsTodo gone s ds ++ ts) m xs) (refusals (slotsTodo gone s ds ++ ts) m xs) l
-      (s + length ds)
+      → Went cfg tl f (slotsArrive l gone i s ds) ts (allShown (slotsTodo gone s ds ++ ts) m xs)
+      (refusals (slotsTodo gone s ds ++ ts) m xs) l (s + length ds)
   unfolding slotsTodo slotsArrive run stateAfter events linesAfter
   slots-told gone i [] s l m tl f ts xs a n h e =
       record {
@@ -143,7 +140,8 @@ module _ (cfg : Config) where
     told-on i rs tl f as' all ref l n w h =
         let xs = arrivals (cfg .stream) d i rs in
         w .left .shows-on ∙ ap (λ r. map strip (events cfg f (run tl as')) ++ r) h
-        ∙ sym (shown-on cfg tl f (record { state = stateAfter tl as'; events = run tl as' }) (as' ++ xs) xs (run-append (ℕ × ℕ) tl as' xs .0))
+        ∙ sym (shown-on cfg tl f (record { state = stateAfter tl as'; events = run tl as' }) (as' ++ xs) xs
+        (run-append (ℕ × ℕ) tl as' xs .0))
 
     begun-rest : (r : Frame) (rs : List Frame) → Begun (r ∷ rs) → Begun rs
     begun-rest r [] n = tt
@@ -227,7 +225,8 @@ lost-due st p c e = go (eqb (slotRefusal st p c) 0) refl e
 next-long : (m : Machine) → refusalIn (did next m .answer) ≡ []
     → (21433 ≤ length (m .packet)) × (m .state .config .watch .n * m .state .config .limit ≤ length (m .collecting))
 unfolding did nextOf readAll shortBy
-next-long m e = go (ltb (length (m .packet)) 21433) (ltb (length (m .collecting)) (m .state .config .watch .n * m .state .config .limit)) refl refl e
+next-long m e =
+    go (ltb (length (m .packet)) 21433) (ltb (length (m .collecting)) (st .config .watch .n * st .config .limit)) refl refl e
   where
     st : State
     st = m .state
@@ -335,7 +334,9 @@ module _ (cfg : Config) (s : startOf cfg .refusal ≡ 0) (d : Damage) (p c : Lis
   unfolding start did
   none-read b h =
       let k = call-follows (frame b) [] (started cfg p c) xs h in
-      k .shows-on ∙ ap (λ r. r ++ allShown [] (did (frame b) (started cfg p c) .machine) (k .calls)) (numbered-quiet (frameOf (startOf cfg .state) b .refusal))
+      k .shows-on
+      ∙ ap (λ r. r ++ allShown [] (did (frame b) (started cfg p c) .machine) (k .calls))
+      (numbered-quiet (frameOf (startOf cfg .state) b .refusal))
       ∙ nothing-left cfg (did (frame b) (started cfg p c) .machine) (k .calls) (k .follows) .0
 
 -- the first frame, by whether it is reported lost and whether a slot of it is read

@@ -96,7 +96,8 @@ module _ (st : State) where
   unfolding slotOf
   slot-keeps p c d =
       choose (KeepsBoth st p) (eqb (refusalOf st (length p) (length c)) 0)
-      (choose (KeepsBoth st p) (wrongLength (dueLength st) (length d)) (λ q. (refl, refl)) (slot-taken-keeps (dueOwn st) p d (duePointers st)))
+      (choose (KeepsBoth st p) (wrongLength (dueLength st) (length d)) (λ q. (refl, refl))
+      (slot-taken-keeps (dueOwn st) p d (duePointers st)))
       (λ q. (refl, refl))
 
 -- next is refused only for its memories
@@ -144,7 +145,8 @@ unfolding advancedOf slotAdvanced
 advanced-good c p =
     choose (λ (a : Advanced). FoundGood (a .found)) (eqb (c .note) 0)
     (choose (λ (a : Advanced). FoundGood (a .found)) (eqb (c .packet) 0)
-    (choose (λ (a : Advanced). FoundGood (a .found)) (c .reading) (by-slot (packetAt (partOf p 0 (c .end)) (c .at)) c (partOf p 0 (c .end))) tt) tt)
+    (choose (λ (a : Advanced). FoundGood (a .found)) (c .reading)
+    (by-slot (packetAt (partOf p 0 (c .end)) (c .at)) c (partOf p 0 (c .end))) tt) tt)
     (λ r. r)
 
 turned-good : (e : Event) → Unrefused e → (q : Queue) (c : Cursor) (p : List ℕ) → FoundGood (turnBy e q c p .found)

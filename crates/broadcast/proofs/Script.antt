@@ -126,7 +126,8 @@ pub record Makes (ts : List Todo) (m : Machine) : Type 0 where
   pub calls : List Made
   pub follows : Follows ts m calls
 
-next-made : (ts : List Todo) (m : Machine) (d : Did) → did next m ≡ d → Makes (drainAfter (d .answer) ts) (d .machine) → Makes (drain ∷ ts) m
+next-made : (ts : List Todo) (m : Machine) (d : Did) → did next m ≡ d → Makes (drainAfter (d .answer) ts) (d .machine)
+    → Makes (drain ∷ ts) m
 next-made ts m d e l =
     record {
       calls = own next ∷ l .calls;

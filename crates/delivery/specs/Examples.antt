@@ -55,6 +55,6 @@ Examples =
     × (join begun-unit Last 0 7 (4 ∷ []) zeros .1 ≡ zeros) × (join begun-unit Last 0 7 (4 ∷ []) zeros .0 .queue .note ≡ 60)
 
 pub examples : Examples
-unfolding partOf pasted fieldBytes fieldsOf singleFits singleUnit singleAt agrees nextPsn heard gap unheard interrupted begun counterFollows grown extended followed acted joinOf
-    firstUnit collected giveOf joinedOf receivedOf
+unfolding partOf pasted fieldBytes fieldsOf singleFits singleUnit singleAt agrees nextPsn heard gap unheard interrupted begun counterFollows
+    grown extended followed acted joinOf firstUnit collected giveOf joinedOf receivedOf
 examples = (refl, refl, refl, refl, refl, refl, refl)

@@ -54,9 +54,11 @@ Specimens =
     -- "psn after 4,294,967,295 is 0"
     (nextPsn (record { 0 = 4294967295 }) ≡ record { 0 = 0 })
     -- "psn 5, 6, 7, counters 2, 1, 0: a unit"
-    × (seen 100 unheard (piece 5 First 2 ∷ piece 6 Middle 1 ∷ piece 7 Last 0 ∷ []) ≡ quiet (Store 0) ∷ quiet (Store 10) ∷ quiet (Complete 20) ∷ [])
+    × (seen 100 unheard (piece 5 First 2 ∷ piece 6 Middle 1 ∷ piece 7 Last 0 ∷ [])
+    ≡ quiet (Store 0) ∷ quiet (Store 10) ∷ quiet (Complete 20) ∷ [])
     -- "5, 6, 8: 60, none"
-    × (seen 100 unheard (piece 5 First 2 ∷ piece 6 Middle 1 ∷ piece 8 Last 0 ∷ []) ≡ quiet (Store 0) ∷ quiet (Store 10) ∷ noted 60 ∷ [])
+    × (seen 100 unheard (piece 5 First 2 ∷ piece 6 Middle 1 ∷ piece 8 Last 0 ∷ [])
+    ≡ quiet (Store 0) ∷ quiet (Store 10) ∷ noted 60 ∷ [])
 
 pub specimens : Specimens
 unfolding nextPsn heard gap unheard agrees interrupted begun counterFollows grown extended followed acted joinOf notesOf seen

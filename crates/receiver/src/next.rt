@@ -16,7 +16,7 @@ use delivery::packet::receive;
 use intake::held::Held;
 
 // A tail is held.
-fn hold(start: usize, len: usize) -> Held
+pub fn hold(start: usize, len: usize) -> Held
     ensures { λ r. ⌜ r ≡ holding start len ⌝ }
 {
     Held {

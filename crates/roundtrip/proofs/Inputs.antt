@@ -83,7 +83,8 @@ module _ (cfg : Config) where
   padded-brings (g ∷ gs) (x ∷ qs) h q =
       let n = nulls-quiet g (h .0) in
       let r = padded-brings gs qs (h .1) (q .1) in
-      (quiet-append g (x ∷ padded gs qs) (n .0) (q .0, r .0), brings-append g (x ∷ padded gs qs) ∙ rw (n .1) (brings-behind x (padded gs qs) qs (r .1)))
+      let b = brings-behind x (padded gs qs) qs (r .1) in
+      (quiet-append g (x ∷ padded gs qs) (n .0) (q .0, r .0), brings-append g (x ∷ padded gs qs) ∙ rw (n .1) b)
 
   -- the packet of piece i
   piece-read : (u : Unit) (place n i : ℕ) (s b : List ℕ) → ReadAs (cfg .cid) place (cfg .watch) (pieceAt u n i (length s)) s b
@@ -119,7 +120,8 @@ module _ {A : Type 0} (cfg : Config) where
   as-input (noted n id) a = refl
   as-input (input x) a = refl
 
-  pub counted-brings : (ps : List (Labelled-packet A)) → map (λ (x : List A × Input). x .1) (inputs cfg (map pairOf ps)) ≡ brings cfg (map bytesIn ps)
+  pub counted-brings : (ps : List (Labelled-packet A))
+      → map (λ (x : List A × Input). x .1) (inputs cfg (map pairOf ps)) ≡ brings cfg (map bytesIn ps)
   unfolding inputs brings
   counted-brings [] = refl
   counted-brings (p ∷ ps) =

@@ -73,7 +73,12 @@ module _ (cfg : Config) (cid : cfg .cid ≤ 4095) where
       }
 
   all-sent : (us : List Parcel) (h : AllSendable cfg us) → Sent cfg us h
-  all-sent [] h = record { good = unfold allPackets in (tt, tt); quiet = unfold allPackets in tt; inputs = unfold allPackets allInputs brings in refl }
+  all-sent [] h =
+      record {
+        good = unfold allPackets in (tt, tt);
+        quiet = unfold allPackets in tt;
+        inputs = unfold allPackets allInputs brings in refl;
+      }
   all-sent (u ∷ us) h = sent-on u us h (all-sent us (h .1))
 
 -- a fresh receiver has heard nothing

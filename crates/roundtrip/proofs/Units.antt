@@ -102,7 +102,9 @@ module _ (cfg : Config) where
       → map strip (run (cfg .limit) f xs) ≡ map (λ (u : Parcel). shown-unit (contentOf u)) us
   unfolding allInputs
   units-back sent [] h c f s [] e = unfold run in refl
-  units-back sent [] h c f s (x ∷ xs) e = absurd (let q : _≡_ {A = ℕ} (length (map (λ (x : _ × Input). x .1) (x ∷ xs))) 0 = ap length e in omega (arith, q))
+  units-back sent [] h c f s (x ∷ xs) e =
+      let q : _≡_ {A = ℕ} (length (map (λ (x : _ × Input). x .1) (x ∷ xs))) 0 = ap length e in
+      absurd (omega (arith, q))
   units-back {A} sent (u ∷ us) h c f s xs e =
       let k : ℕ = h .0 .place in
       let p = split (λ (x : A × Input). x .1) (inputs (u .unit) k (u .m) (u .bytes)) (allInputs us (h .1)) xs e in
@@ -111,4 +113,5 @@ module _ (cfg : Config) where
       let g : ℕ → Line A = linesAfter (cfg .limit) f (p .front) in
       let t = stand-on sent u f g k (h .0 .watched) (r .phase) (r .last) (r .others) s in
       let i = units-back (u ∷ sent) us (h .1) (c .1) g t (p .back) (p .back-is) in
-      rw (← p .whole, run-append A (cfg .limit) f (p .front) (p .back) .0, r .events) (ap (λ (l : List Shown). shown-unit (contentOf u) ∷ l) i)
+      rw (← p .whole, run-append A (cfg .limit) f (p .front) (p .back) .0, r .events)
+      (ap (λ (l : List Shown). shown-unit (contentOf u) ∷ l) i)

@@ -66,6 +66,13 @@ fn take_unit<'a>(
     Counts { back, ..counts }
 }
 
+fn stepped(state: State, counts: Counts, more: bool) -> Step
+    ensures { λ r. ⌜ r ≡ record { reading = record { state = state; counts = counts }; more = more } ⌝ }
+{
+    let reading = Reading { state, counts };
+    Step { reading, more }
+}
+
 // A call of next.
 fn call_next(r: Reading, source: &[u8], packet: &[u8], collecting: &mut [u8]) -> Step
     ensures { λ s. ⌜ (s, now (collecting .exit)) ≡ stepOf r (now (packet .entry)) (now (collecting .entry)) ⌝ }
@@ -78,37 +85,19 @@ fn call_next(r: Reading, source: &[u8], packet: &[u8], collecting: &mut [u8]) ->
     match event {
         Event::Unit(given) => {
             let counts = take_unit(counts, given, source, packet, collecting);
-            let reading = Reading { state, counts };
-            Step {
-                reading,
-                more: true,
-            }
+            stepped(state, counts, true)
         }
         Event::Note(number, id) => {
             print::note(number, id);
             let notes = std::num::wrapping_add_u64(counts.notes, 1);
             let counts = Counts { notes, ..counts };
-            let reading = Reading { state, counts };
-            Step {
-                reading,
-                more: true,
-            }
+            stepped(state, counts, true)
         }
         Event::Refused(number) => {
             print::refusal(number);
-            let reading = Reading { state, counts };
-            Step {
-                reading,
-                more: false,
-            }
+            stepped(state, counts, false)
         }
-        Event::Nothing => {
-            let reading = Reading { state, counts };
-            Step {
-                reading,
-                more: false,
-            }
-        }
+        Event::Nothing => stepped(state, counts, false),
     }
 }
 

@@ -27,8 +27,8 @@ add-result c = search needs
 
 returns : tie.Need-returns
 returns c =
-    rw
-    (be-4, c .before .before .wide32 .ensures .0, c .before .before .before .read16 .ensures, c .wide322 .ensures .0, c .before .read162 .ensures)
+    let a = c .before .before in
+    rw (be-4, a .wide32 .ensures .0, a .before .read16 .ensures, c .wide322 .ensures .0, c .before .read162 .ensures)
 
 pub read32-spec : {M : Type 1} → statement M
 read32-spec =
