@@ -1,8 +1,8 @@
 -- Why feeding writes the first of the lines that the bytes ahead come to: a turn gathers bytes, or carries out a whole command.
-use Prim.Native.Nat.{ℕ, zero, suc, min, _+_, _-_, _<_, _≤_}
+use Prim.Native.Nat.{ℕ, zero, suc, _+_, _-_, _<_, _≤_}
 use mathlib.Core.Path.{_≡_, refl, sym, _∙_, ap}
 use mathlib.Core.Bool.{Bool, true, false, cond, _&&_, not, and-eq-true-iff, true≢false}
-use mathlib.Core.List.{List, [], _∷_, _++_, append-assoc}
+use mathlib.Core.List.{List, [], _++_, append-assoc}
 use native.Mathlib.Omega.{arith}
 use borrow.Author.Tests.{leb-true, eqb-true, eqb-false, not-true, ltb-true, ltb-false, eq-eqb}
 use lib.ListN.{length, getD, take, drop, length-append, length-drop, take-append-drop}
@@ -19,13 +19,15 @@ use Rattle.capture.specs.Line.{refusedLine, field-21}
 use Rattle.capture.specs.Text.{wrote, wrote-none, wrote-end, length-wrote, wrote-append}
 use Rattle.capture.specs.Session.{busy, isReading, isEnded, inPhase, withState}
 use Rattle.capture.specs.Command.{letterOf, sizeOf, whole, size-by, slot-size-within, size-kept, size-grows, size-most}
-use Rattle.capture.specs.Capture.{Done, fits, callOf, afterCall, settled, doneOf, drainedOf, lastLine, textOf}
+use Rattle.capture.specs.Capture.{Done, fits, callOf, afterCall, settled, doneOf, lastLine, textOf}
 use Rattle.capture.specs.Steps.{roomy, actedOf, pouredOf}
-use Rattle.capture.specs.Feed.{World, heldOf, wantedOf, keptOf, Keeps, gatheredOf, ranOf, goesBy, goes, turnOf, fedBy, fedFrom, keeps-all, keeps-none, gathered-some, wanted-first, wanted-rest, kept-all, kept-none, ran-part, ran-whole, goes-read}
-use Rattle.capture.specs.Claims.{Right, ahead, Feeds, Pours, FeedClaim}
-use Rattle.capture.proofs.Drained.{drain-idle}
+use Rattle.capture.specs.Feed.{World, heldOf, Keeps, gatheredOf, goesBy, goes, turnOf, fedBy, fedFrom, keeps-all}
+use Rattle.capture.specs.Feed.{keeps-none, gathered-some, wanted-first, wanted-rest, kept-all, kept-none, ran-part}
+use Rattle.capture.specs.Feed.{ran-whole, goes-read}
+use Rattle.capture.specs.Claims.{Right, ahead, Feeds, FeedClaim}
+use Rattle.capture.specs.Drains.{drain-idle}
 use Rattle.capture.proofs.Pours.{pour-claim}
-use Rattle.capture.proofs.Texts.{whole-size, size-whole, onFrom, text-step, text-behind}
+use Rattle.capture.proofs.Texts.{size-whole, text-step, text-behind}
 
 right-keeps : (block : List ℕ) (w : World) → Right block w → Keeps (w .command) (w .held)
 right-keeps block w r = go (eqb (w .held) 0) refl
@@ -241,7 +243,8 @@ module _ (block : List ℕ) (w : World) (r : Right block w) (g : goes block w �
       let y = pour-claim (q .session) (q .packet) (w .collecting) (o .1) (o .0) (omega arith) in
       let z = pouredOf (q .session) (q .packet) (w .collecting) (o .1) (o .0) in
       let within = y .within in
-      let i : z .0 .at ≡ o .0 + length (y .text) = ap (λ (t : ℕ × List ℕ). t .0) (y .written) ∙ wrote-end (o .1) (o .0) (y .text) in
+      let i : z .0 .at ≡ o .0 + length (y .text) =
+      ap (λ (t : ℕ × List ℕ). t .0) (y .written) ∙ wrote-end (o .1) (o .0) (y .text) in
       let j : length (z .2) ≡ length (o .1) =
       ap (λ (t : ℕ × List ℕ). length (t .1)) (y .written) ∙ length-wrote (o .1) (o .0) (y .text) within in
       rw (ran-whole (w .session) x (w .packet) (w .collecting) (w .out) (w .written) h _ _ _ refl _ _ _ refl, k) (

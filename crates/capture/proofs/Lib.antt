@@ -1,6 +1,7 @@
 -- The theorems, and the laws that they share.
-pub mod Drained
+pub mod Lines
 pub mod Pours
 pub mod Texts
 pub mod Feeds
 pub mod Playing
+pub mod Progress

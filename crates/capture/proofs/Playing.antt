@@ -1,24 +1,22 @@
 -- Why a capture that is played gives its lines: each call writes the first of the lines that are still to come.
 use Prim.Native.Nat.{ℕ, _+_, _<_, _≤_}
 use mathlib.Core.Path.{_≡_, refl, sym, _∙_, ap}
-use mathlib.Core.Bool.{Bool, true, false, cond}
+use mathlib.Core.Bool.{Bool, true, false}
 use mathlib.Core.List.{List, [], _++_, append-assoc, append-nil}
-use native.Mathlib.Nat.{zero-add}
 use native.Mathlib.Omega.{arith}
-use borrow.Author.Tests.{eqb-true, eqb-false, ltb-true, ltb-false}
+use borrow.Author.Tests.{eqb-true, eqb-false}
 use lib.ListN.{length, take, drop}
 use lib.Seq.{take-paste, take-length, length-take-le}
-use lib.Dec.{eqb, ltb}
+use lib.Dec.{eqb}
 use Rattle.wire.specs.Memory.{pasted}
-use Rattle.capture.specs.declared.session.Session.{Session}
 use Rattle.capture.specs.Text.{wrote}
-use Rattle.capture.specs.Session.{busy, isEnded, freshSession}
+use Rattle.capture.specs.Session.{busy}
 use Rattle.capture.specs.Command.{sizeOf, whole, size-none}
 use Rattle.capture.specs.Capture.{lastLine, textOf, captureOf}
-use Rattle.capture.specs.Feed.{World, heldOf, keptOf, leftBy, entered, fedFrom, fedOf, fed-long, kept-all, kept-none}
-use Rattle.capture.specs.Claims.{Right, Feeds, Pours}
+use Rattle.capture.specs.Feed.{World, heldOf, keptOf, leftBy, entered, fedFrom, fed-long, kept-all, kept-none}
+use Rattle.capture.specs.Claims.{Right}
 use Rattle.capture.specs.Plays.{Player, fed, afterFeed, poured, afterPour, Plays, stops, feeds, pours, first, PlayClaim}
-use Rattle.capture.proofs.Drained.{drain-idle}
+use Rattle.capture.specs.Drains.{drain-idle}
 use Rattle.capture.proofs.Pours.{pour-claim}
 use Rattle.capture.proofs.Texts.{text-step, text-behind, whole-size}
 use Rattle.capture.proofs.Feeds.{feed-claim, ended-text}
@@ -90,8 +88,8 @@ plays-text (feeds {x = x} {y = y} {t = t} {l = l} block later out p) g =
     let r = fed x block out in
     let i = plays-text p (feed-good x g block later out) in (
       i .0,
-      then-more (toCome x (block ++ later)) (take (r .0 .written) (r .4)) (toCome (afterFeed r) (drop (r .0 .read) block ++ later)) t
-          (toCome y l) (feed-text x g block later out) (i .1),
+      then-more (toCome x (block ++ later)) (take (r .0 .written) (r .4))
+          (toCome (afterFeed r) (drop (r .0 .read) block ++ later)) t (toCome y l) (feed-text x g block later out) (i .1),
     )
 plays-text (pours {x = x} {y = y} {b = b} {t = t} {l = l} out p) g =
     let r = poured x out in

@@ -1,7 +1,7 @@
 -- Why pouring writes the first of the lines that are owed: each call of next writes its line behind the others.
 use Prim.Native.Nat.{ℕ, zero, suc, _+_, _≤_}
-use mathlib.Core.Path.{_≡_, refl, sym, _∙_, ap}
-use mathlib.Core.Bool.{Bool, true, false, cond, _&&_, and-false, and-eq-true-iff, true≢false}
+use mathlib.Core.Path.{_≡_, refl, sym, _∙_}
+use mathlib.Core.Bool.{Bool, true, false, _&&_, and-false, and-eq-true-iff, true≢false}
 use mathlib.Core.List.{List, [], _++_, append-assoc, append-nil}
 use native.Mathlib.Omega.{arith}
 use borrow.Author.Tests.{leb-true}
@@ -17,7 +17,8 @@ use Rattle.capture.specs.Waits.{waits, isLine}
 use Rattle.capture.specs.Capture.{Drained, behind, eventBy, eventLine, tallied, closed, drainedOf}
 use Rattle.capture.specs.Steps.{Poured, pouredAt, pourBy, roomy, pouredBy, pouredOf}
 use Rattle.capture.specs.Claims.{Pours, PourClaim}
-use Rattle.capture.proofs.Drained.{drain-step, drain-idle, line-152}
+use Rattle.capture.specs.Drains.{drain-step, drain-idle}
+use Rattle.capture.proofs.Lines.{line-152}
 
 -- nothing was written
 stays : (s : Session) (p c out : List ℕ) (at : ℕ) → at ≤ length out → Pours s p c out at (pouredAt s c (at, out))
@@ -36,7 +37,8 @@ behind-behind s t d = rw (append-assoc s t (d .text))
 
 -- one call of next, and what goes on from there
 module _ (s : Session) (p c out : List ℕ) (at : ℕ) (e : Event) (f : Session → List ℕ → List ℕ → ℕ → Poured)
-    (b : drainedOf s p c ≡ eventBy e (withState s (nextOf (s .state) p c .0 .state)) (nextOf (s .state) p c .1) (λ t d. drainedOf t p d))
+    (b : let r = nextOf (s .state) p c in
+    drainedOf s p c ≡ eventBy e (withState s (r .0 .state)) (r .1) (λ t d. drainedOf t p d))
     (room : at + 152 ≤ length out) where
   abbrev next : Session
   next = withState s (nextOf (s .state) p c .0 .state)

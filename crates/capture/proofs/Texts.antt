@@ -1,19 +1,15 @@
 -- The lines of a capture, one command at a time.
-use Prim.Native.Nat.{ℕ, zero, suc, _+_, _-_, _<_, _≤_}
+use Prim.Native.Nat.{ℕ, zero, suc, _+_, _-_, _≤_}
 use mathlib.Core.Path.{_≡_, refl, sym, _∙_, ap}
-use mathlib.Core.Bool.{Bool, true, false, cond, _&&_, not, and-eq-true-iff}
-use mathlib.Core.List.{List, [], _∷_, _++_, append-assoc}
+use mathlib.Core.Bool.{Bool, true, false, cond, not, and-eq-true-iff}
+use mathlib.Core.List.{List, _++_, append-assoc}
 use native.Mathlib.Omega.{arith}
-use borrow.Author.Tests.{eqb-false, leb-true, not-true, ltb-true, ltb-false, ne-eqb, le-leb}
-use lib.ListN.{length, getD, take, drop, length-drop, length-append, List·getD-append}
-use lib.Seq.{take-append-seam, drop-append-seam}
-use lib.Dec.{eqb, ltb, leb}
-use Rattle.wire.specs.Field.{be, be-2}
-use Rattle.capture.specs.declared.command.Letter.{Letter}
-use Rattle.capture.specs.declared.command.Letter.the-variants.{Start, Frame, LostFrame, Slot, LostSlot, Unknown}
+use borrow.Author.Tests.{eqb-false, leb-true, not-true, ne-eqb, le-leb}
+use lib.ListN.{length, take, drop, length-drop}
+use lib.Dec.{eqb, leb}
 use Rattle.capture.specs.declared.session.Session.{Session}
 use Rattle.capture.specs.Session.{isEnded}
-use Rattle.capture.specs.Command.{letterOf, slotSize, sizeBy, sizeOf, whole, size-by, slot-size-short, slot-size-known, slot-size-long}
+use Rattle.capture.specs.Command.{sizeOf, whole}
 use Rattle.capture.specs.Capture.{Drained, behind, doneOf, drainedOf, reads, lastLine, textBy, textOf}
 
 -- a command that is read has its bytes

@@ -21,7 +21,8 @@ use Rattle.capture.specs.declared.session.Session.{Session}
 use Rattle.capture.specs.declared.session.Tally.{Tally}
 use Rattle.capture.specs.Line.{unitLine, noteLine, refusedLine, endLine}
 use Rattle.capture.specs.Command.{letterOf, sizeOf, whole, configOf}
-use Rattle.capture.specs.Session.{isEnded, busy, withState, inPhase, withTally, inFrame, inSlot, withUnit, withNote, freshSession}
+use Rattle.capture.specs.Session.{isEnded, busy, withState, inPhase, withTally, inFrame, inSlot, withUnit, withNote}
+use Rattle.capture.specs.Session.{freshSession}
 use Rattle.capture.specs.Waits.{waits, isLine}
 
 -- "C comes first and once; another order counts as unknown"
@@ -97,7 +98,7 @@ eventLine t (Refused n) = refusedLine n
 unfoldable pub tallied : Tally → Event → Tally
 tallied t Nothing = t
 tallied t (Note n id) = withNote t
-tallied t (Unit g) = withUnit t
+tallied t (Unit g) = withUnit t (g .place .len)
 tallied t (Refused n) = t
 
 -- the session after an event that is no line: nothing waits, or next was refused

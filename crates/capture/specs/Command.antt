@@ -5,7 +5,8 @@ use mathlib.Core.Bool.{Bool, true, false, cond, _&&_, not}
 use mathlib.Core.List.{List, [], _∷_, _++_}
 use native.Mathlib.Omega.{arith}
 use borrow.Author.Tests.{lt-ltb, le-ltb, ltb-true, ltb-false}
-use lib.ListN.{length, getD, length-append, List·getD-append}
+use lib.ListN.{length, getD, take, drop, length-append, take-append-drop, List·getD-append}
+use lib.Seq.{length-take-le}
 use lib.Dec.{eqb, ltb, leb}
 use Rattle.wire.specs.Field.{be, be-2}
 use Rattle.tmcc.specs.Count.{tab}
@@ -131,6 +132,13 @@ module _ (b rest : List ℕ) where
         go Slot e = rw (size-by (b ++ rest) Slot (letter-kept ∙ e), size-by b Slot e) (slot-grows (ltb (length b) 3) refl)
         go LostSlot e = rw (size-by (b ++ rest) LostSlot (letter-kept ∙ e), size-by b LostSlot e) (omega arith)
         go Unknown e = rw (size-by (b ++ rest) Unknown (letter-kept ∙ e), size-by b Unknown e) (omega arith)
+
+-- the bytes of a whole command, by themselves, are whole
+pub front-whole : (b : List ℕ) → 1 ≤ sizeOf b → sizeOf b ≤ length b → sizeOf (take (sizeOf b) b) ≤ length (take (sizeOf b) b)
+front-whole b o h =
+    let l = length-take-le (sizeOf b) b h in
+    let g = size-grows (take (sizeOf b) b) (drop (sizeOf b) b) (omega arith) in
+    omega (arith, rw (take-append-drop (sizeOf b) b) at g)
 
 pub size-most : (b : List ℕ) → sizeOf b ≤ 65538
 size-most b = go (letterOf (getD b 0 0)) refl

@@ -5,25 +5,23 @@ use mathlib.Core.List.{List, [], _∷_, _++_}
 use lib.ListN.{replicate}
 use Rattle.wire.specs.Field.{be}
 use Rattle.tmcc.specs.Count.{tab, allBelow, countBelow, lastBelow}
-use Rattle.tmcc.specs.Mode.{dataBytes, within, used, unused, modeGood, slotsOf, modesGood, modeFrom, modeOf, slotLength}
-use Rattle.tmcc.specs.Stream.{chosen, relativeStream, ownSlot}
-use Rattle.tmcc.specs.Layout.{pointersAt, layoutOf, blankLayout}
+use Rattle.tmcc.specs.Mode.{dataBytes, within, used, unused, modeGood, slotsOf, modesGood}
 use Rattle.tmcc.specs.Block.{decodeOf}
 use Rattle.mmtp.specs.Watch.{firstFrom, lookupOf}
 use Rattle.reassembly.specs.Channel.{unheard}
 use Rattle.intake.specs.Slot.{lostOf}
-use Rattle.delivery.specs.Queue.{takenOf as taken}
-use Rattle.delivery.specs.Cursor.{turnOf, advancedOf, slotAdvanced, left}
+use Rattle.delivery.specs.Cursor.{left}
 use Rattle.receiver.specs.Start.{before, twiceBelow, twice, freshState, refusalOf as startRefusal, startOf}
 use Rattle.receiver.specs.Frame.{frameBusy, frameOf, lossOf, lostFrameOf}
-use Rattle.receiver.specs.Slot.{shortBy, refusalOf, counted, wrongLength, slotOf, lostSlotOf}
-use Rattle.receiver.specs.Next.{packetOf, readOn, readAll, nextOf}
+use Rattle.receiver.specs.Slot.{shortBy, refusalOf, slotOf, lostSlotOf}
+use Rattle.receiver.specs.Next.{nextOf}
 use Rattle.capture.specs.Decimal.{digits, decimal}
-use Rattle.capture.specs.Line.{field, placeText, unitLine, idText, noteLine, refusedLine, endLine}
+use Rattle.capture.specs.Line.{field, refusedLine, endLine}
 use Rattle.capture.specs.Command.{letterOf, slotSize, sizeOf, whole, idsOf, configOf}
 use Rattle.capture.specs.Session.{freshSession}
 use Rattle.capture.specs.Waits.{queueWaits, cursorWaits, waitsBy}
-use Rattle.capture.specs.Capture.{callOf, afterCall, doneOf, eventLine, tallied, closed, drainedBy, drainedOf, textBy, textOf, captureOf}
+use Rattle.capture.specs.Capture.{callOf, afterCall, doneOf, eventLine, tallied, closed, drainedBy, drainedOf, textBy}
+use Rattle.capture.specs.Capture.{textOf, captureOf}
 
 -- C with stream 0x0102, CID 2, n ids, the first of them 17, and R = 16
 abbrev start : ℕ → List ℕ
@@ -66,6 +64,7 @@ Captures =
 captures : Captures
 unfolding be tab allBelow countBelow lastBelow dataBytes within used unused modeGood slotsOf modesGood decodeOf firstFrom lookupOf
     unheard lostOf before twiceBelow twice freshState startRefusal startOf frameBusy frameOf lossOf lostFrameOf shortBy refusalOf
-    slotOf lostSlotOf nextOf digits decimal field refusedLine endLine letterOf slotSize sizeOf whole idsOf configOf freshSession queueWaits cursorWaits waitsBy
-    left callOf afterCall doneOf eventLine tallied closed drainedBy drainedOf textBy textOf captureOf
+    slotOf lostSlotOf nextOf digits decimal field refusedLine endLine letterOf slotSize sizeOf whole idsOf configOf freshSession
+    queueWaits cursorWaits waitsBy left callOf afterCall doneOf eventLine tallied closed drainedBy drainedOf textBy textOf
+    captureOf
 captures = (refl, refl, refl, refl, refl, refl, refl, refl, refl, refl)

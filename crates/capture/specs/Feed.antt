@@ -1,6 +1,6 @@
 -- What feeding a block answers and leaves.
 use Prim.Native.Nat.{ℕ, zero, suc, min, _+_, _-_, _<_, _≤_}
-use mathlib.Core.Path.{_≡_, refl, sym, _∙_, ap}
+use mathlib.Core.Path.{_≡_, refl, _∙_, ap}
 use mathlib.Core.Bool.{Bool, true, false, cond, _&&_, not, and-eq-true-iff}
 use mathlib.Core.List.{List}
 use native.Mathlib.Nat.{add-sub-cancel-left}
@@ -137,7 +137,8 @@ module _ (s : Session) (b p c out : List ℕ) (at : ℕ) where
   ran-part h = rw (lt-ltb _ _ h)
 
   pub ran-whole : sizeOf b ≤ length b → (a : Progress) (p' o : List ℕ) → (a, p', o) ≡ actedOf s p c b out at
-      → (w : Progress) (c' o' : List ℕ) → (w, c', o') ≡ pouredOf (a .session) p' c o (a .at) → ranOf s b p c out at ≡ (w, p', c', o')
+      → (w : Progress) (c' o' : List ℕ) → (w, c', o') ≡ pouredOf (a .session) p' c o (a .at)
+      → ranOf s b p c out at ≡ (w, p', c', o')
   unfolding ranOf
   ran-whole h a p' o e w c' o' f = rw (le-ltb _ _ h, ← e, ← f)
 

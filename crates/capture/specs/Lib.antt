@@ -5,10 +5,13 @@ pub mod Line
 pub mod Command
 pub mod Session
 pub mod Waits
+pub mod Bounded
 pub mod Capture
+pub mod Drains
 pub mod Steps
 pub mod Feed
 pub mod Examples
 pub mod Worked
 pub mod Claims
 pub mod Plays
+pub mod Progress

@@ -1,6 +1,6 @@
 -- What the functions of a capture answer and leave: the definition's lines, written to a memory while there is room.
-use Prim.Native.Nat.{ℕ, zero, suc, _+_, _<_, _≤_}
-use mathlib.Core.Path.{_≡_, refl, sym, _∙_, ap}
+use Prim.Native.Nat.{ℕ, zero, suc, _+_, _<_}
+use mathlib.Core.Path.{_≡_, refl, sym, _∙_}
 use mathlib.Core.Bool.{Bool, true, false, cond, _&&_, and-eq-true-iff}
 use mathlib.Core.List.{List}
 use native.Mathlib.Omega.{arith}
@@ -8,7 +8,6 @@ use borrow.Author.Tests.{eq-eqb, ne-eqb}
 use lib.ListN.{length, getD}
 use lib.Dec.{leb}
 use Rattle.delivery.specs.declared.event.Event.{Event}
-use Rattle.delivery.specs.declared.event.Event.the-variants.{Nothing, Note, Unit, Refused}
 use Rattle.delivery.specs.declared.cursor.Found.the-variants.{Event as AnEvent, Done}
 use Rattle.delivery.specs.declared.cursor.Turn.{Turn}
 use Rattle.delivery.specs.Cursor.{turnOf}
@@ -28,6 +27,7 @@ use Rattle.capture.specs.Line.{refusedLine}
 use Rattle.capture.specs.Command.{letterOf}
 use Rattle.capture.specs.Session.{isReading, busy, inPhase, withState, withTally}
 use Rattle.capture.specs.Waits.{waits, isLine, next-falls}
+use Rattle.capture.specs.Bounded.{same-on, enough}
 use Rattle.capture.specs.Capture.{fits, callOf, afterCall, doneOf, eventLine, tallied, closed, lastLine}
 
 -- a command carried out with its line written to `out`: what the function answers and leaves
@@ -96,29 +96,29 @@ module _ (s : Session) (p c b out : List ℕ) (at : ℕ) (l : Letter) (k : lette
     unfolding actedOf doneOf
     acted-refused z end o w = rw (k, f, ← e, ne-eqb _ _ z, ← w)
 
+-- one call, and then `on`
+abbrev pourOn : Session → List ℕ → List ℕ → List ℕ → ℕ → (Session → List ℕ → List ℕ → ℕ → Poured) → Poured
+pourOn s p c out at on =
+    let r = nextOf (s .state) p c in
+    cond (busy s && roomy (length out) at) (pourBy (r .0 .event) (withState s (r .0 .state)) (r .1) out at on)
+    (pouredAt s c (at, out))
+
 -- two ways of going on that agree where less waits
-module _ (p : List ℕ) (f g : Session → List ℕ → List ℕ → ℕ → Poured) where
-  pour-same : (e : Event) (s : Session) (c out : List ℕ) (at n : ℕ) → (isLine e ≡ true → waits (s .state) p < n)
-      → ((t : Session) (d o : List ℕ) (a : ℕ) → waits (t .state) p < n → f t d o a ≡ g t d o a)
-      → pourBy e s c out at f ≡ pourBy e s c out at g
-  pour-same e s c out at n h k = go (isLine e) refl
-    where
-      go : (b : Bool) → isLine e ≡ b → pourBy e s c out at f ≡ pourBy e s c out at g
-      go true i = rw i (k _ c _ _ (h i))
-      go false i = rw i
+pour-same : (s : Session) (p c out : List ℕ) (at : ℕ) (f g : Session → List ℕ → List ℕ → ℕ → Poured)
+    → ((t : Session) (d o : List ℕ) (a : ℕ) → waits (t .state) p < waits (s .state) p → f t d o a ≡ g t d o a)
+    → pourOn s p c out at f ≡ pourOn s p c out at g
+pour-same s p c out at f g k =
+    let r = nextOf (s .state) p c in
+    same-on (busy s && roomy (length out) at) _ _ _
+    (λ b. same-on (isLine (r .0 .event)) _ _ _ (λ i. k _ (r .1) _ _ (next-falls p (s .state) c i)))
 
 -- more calls change nothing
 pour-enough : (f g : ℕ) (s : Session) (p c out : List ℕ) (at : ℕ) → waits (s .state) p < f → waits (s .state) p < g
     → pouredBy f s p c out at ≡ pouredBy g s p c out at
 unfolding pouredBy
-pour-enough zero g s p c out at h k = absurd (omega arith)
-pour-enough (suc f) zero s p c out at h k = absurd (omega arith)
-pour-enough (suc f) (suc g) s p c out at h k =
-    let r = nextOf (s .state) p c in
-    ap (λ (x : Poured). cond (busy s && roomy (length out) at) x (pouredAt s c (at, out)))
-    (pour-same p (λ t d o a. pouredBy f t p d o a) (λ t d o a. pouredBy g t p d o a) (r .0 .event) (withState s (r .0 .state)) (r .1)
-    out at (waits (s .state) p) (next-falls p (s .state) c)
-    (λ t d o a l. pour-enough f g t p d o a (omega arith) (omega arith)))
+pour-enough f g s p c out at =
+    enough {X = Session × List ℕ × List ℕ × ℕ} (λ x. waits (x .0 .state) p) (λ n x. pouredBy n (x .0) p (x .1) (x .2) (x .3))
+    (λ m n x k. pour-same (x .0) p (x .1) (x .2) (x .3) _ _ (λ t d o a l. k (t, d, o, a) l)) f g (s, c, out, at)
 
 module _ (s : Session) (p c out : List ℕ) (at : ℕ) where
   -- one call at a time
@@ -128,12 +128,8 @@ module _ (s : Session) (p c out : List ℕ) (at : ℕ) where
       (pourBy (r .0 .event) (withState s (r .0 .state)) (r .1) out at (λ t d o a. pouredOf t p d o a)) (pouredAt s c (at, out))
   unfolding pouredOf pouredBy
   pour-step =
-      let r = nextOf (s .state) p c in
-      let n = waits (s .state) p in
-      ap (λ (x : Poured). cond (busy s && roomy (length out) at) x (pouredAt s c (at, out)))
-      (pour-same p (λ t d o a. pouredBy n t p d o a) (λ t d o a. pouredBy (suc (waits (t .state) p)) t p d o a) (r .0 .event)
-      (withState s (r .0 .state)) (r .1) out at n (next-falls p (s .state) c)
-      (λ t d o a l. pour-enough n (suc (waits (t .state) p)) t p d o a l (omega arith)))
+      pour-same s p c out at _ _
+      (λ t d o a l. pour-enough (waits (s .state) p) (suc (waits (t .state) p)) t p d o a l (omega arith))
 
   pub pour-stops : (busy s && roomy (length out) at) ≡ false → pouredOf s p c out at ≡ pouredAt s c (at, out)
   pour-stops h = pour-step ∙ rw h
@@ -157,7 +153,8 @@ module _ (s : Session) (p c out : List ℕ) (at : ℕ) where
     pour-short r e n o w = pour-next s p c out at (rw (h, r)) _ (next-short (s .state) p c e) ∙ rw (← w)
 
 -- one turn of reading on at a time
-module _ (s : Session) (p c out : List ℕ) (at : ℕ) (d : Drains s (length p) (length c)) (room : roomy (length out) at ≡ true) where
+module _ (s : Session) (p c out : List ℕ) (at : ℕ) (d : Drains s (length p) (length c))
+    (room : roomy (length out) at ≡ true) where
   abbrev turned : Turn
   turned = turnOf (s .state .queue) (s .state .cursor) p
 
@@ -166,7 +163,9 @@ module _ (s : Session) (p c out : List ℕ) (at : ℕ) (d : Drains s (length p) 
 
   pour-read : (o : Out) → readAll (s .state) p c ≡ o
       → pouredOf s p c out at ≡ pourBy (o .0 .event) (withState s (o .0 .state)) (o .1) out at (λ t d o a. pouredOf t p d o a)
-  pour-read o e = pour-next s p c out at drains-on o (next-reads (s .state) p c (d .long) (and-eq-true-iff (isReading (s .phase)) (s .state .owed) .0 (d .owed) .1) ∙ e)
+  pour-read o e =
+      let w = and-eq-true-iff (isReading (s .phase)) (s .state .owed) .0 (d .owed) .1 in
+      pour-next s p c out at drains-on o (next-reads (s .state) p c (d .long) w ∙ e)
 
   module _ (e : Event) (h : turned .found ≡ AnEvent e) where
     abbrev stepped : Session

@@ -1,6 +1,6 @@
 -- How much next still gives at most. It falls with every event, so that calling next until nothing waits ends.
 use Prim.Native.Nat.{ℕ, zero, suc, _+_, _-_, _*_, _<_, _≤_}
-use mathlib.Core.Path.{_≡_, refl, sym, _∙_, ap}
+use mathlib.Core.Path.{_≡_, refl, sym}
 use mathlib.Core.Bool.{Bool, true, false, cond, true≢false}
 use mathlib.Core.List.{List}
 use native.Mathlib.Nat.{mul-le-mul-right, suc-mul, lt-trans}
@@ -29,8 +29,10 @@ use Rattle.delivery.specs.declared.cursor.Found.{Found}
 use Rattle.delivery.specs.declared.cursor.Found.the-variants.{Event, Packet, Tail, Done}
 use Rattle.delivery.specs.declared.cursor.Advanced.{Advanced}
 use Rattle.delivery.specs.Within.{part-within}
-use Rattle.delivery.specs.Queue.{takenOf, nextUnit, manyBy, taken-note, taken-over, taken-nothing, taken-one, taken-many}
-use Rattle.delivery.specs.Cursor.{one, span, left, isEvent, goesOn, advancedOf, slotAdvanced, tailAdvanced, turnOf, turn-event, turn-on, turn-less, advanced-less, advanced-note, advanced-packet, advanced-slot, advanced-done, slot-packet, slot-tail}
+use Rattle.delivery.specs.Queue.{takenOf, nextUnit, taken-note, taken-over, taken-nothing, taken-one, taken-many}
+use Rattle.delivery.specs.Cursor.{one, span, left, isEvent, goesOn, advancedOf, slotAdvanced, tailAdvanced, turnOf, turn-event}
+use Rattle.delivery.specs.Cursor.{turn-on, advanced-less, advanced-note, advanced-packet, advanced-slot, advanced-done}
+use Rattle.delivery.specs.Cursor.{slot-packet, slot-tail}
 use Rattle.intake.specs.Slot.{holding}
 use Rattle.receiver.specs.declared.state.State.{State}
 use Rattle.receiver.specs.State.{withSlot}
@@ -115,7 +117,8 @@ module _ (q : Queue) (p : List ℕ) where
   abbrev Falls : Taken → Type 0
   Falls t = isEvent (t .event) ≡ true → queueWaits (t .queue) p < queueWaits q p
 
-  many-falls : (a : Aggregate) (s : Step) → q .note ≡ 0 → q .over ≡ false → q .give ≡ Many a → nextUnit a p ≡ s → Falls (takenOf q p)
+  many-falls : (a : Aggregate) (s : Step) → q .note ≡ 0 → q .over ≡ false → q .give ≡ Many a → nextUnit a p ≡ s
+      → Falls (takenOf q p)
   unfolding queueWaits
   many-falls a (UnitAt u) n o g e =
       let w = unit-on (partOf p (a .start) (a .end - a .start)) (a .at) _ _ u e in
@@ -234,7 +237,8 @@ module _ (p : List ℕ) where
       λ g. lt-trans (k (r .0) (r .1) g) l
   onwards-falls st c f (Tail start len) h k =
       let s = past st (turnOf (st .queue) (st .cursor) p) in
-      λ g. lt-trans (k (withSlot s (holding start len) (s .cursor)) c g) (turn-falls (st .queue) (st .cursor) p .1 (rw h refl) (s .queue))
+      λ g. lt-trans (k (withSlot s (holding start len) (s .cursor)) c g)
+      (turn-falls (st .queue) (st .cursor) p .1 (rw h refl) (s .queue))
   onwards-falls st c f Done h k = λ g. absurd (true≢false (sym g))
 
   read-falls : (f : ℕ) (st : State) (c : List ℕ) → Ends st (readOn f st p c)
@@ -243,7 +247,8 @@ module _ (p : List ℕ) where
   read-falls (suc f) st c = onwards-falls st c (λ s d. readOn f s p d) _ refl (λ s d. read-falls f s d)
 
   -- less waits after each line
-  pub next-falls : (st : State) (c : List ℕ) → isLine (nextOf st p c .0 .event) ≡ true → waits (nextOf st p c .0 .state) p < waits st p
+  pub next-falls : (st : State) (c : List ℕ) → isLine (nextOf st p c .0 .event) ≡ true
+      → waits (nextOf st p c .0 .state) p < waits st p
   next-falls st c = go (shortBy (st .config) (length p) (length c)) (st .owed) refl refl
     where
       go : (b o : Bool) → shortBy (st .config) (length p) (length c) ≡ b → st .owed ≡ o → Ends st (nextOf st p c)

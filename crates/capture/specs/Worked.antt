@@ -18,7 +18,8 @@ use Rattle.mmtp.specs.Flow.{flowOf, compressedOf, behind, compressedHeader}
 use Rattle.mmtp.specs.Header.{headerOf, plain, payloadStart, fixedBytes, extensionBytes, extensionLength, startOf as payloadAt}
 use Rattle.mmtp.specs.Watch.{lookupOf, firstFrom}
 use Rattle.mmtp.specs.Packet.{readingOf, headRead, lookedUp, bodyRead}
-use Rattle.mmtp.specs.Payload.{indicatorOf, fragmentTypeOf, mpuOf, signallingOf, parsedOf, counterFits, aggregationFits, unitsFit, tested, payloadOf}
+use Rattle.mmtp.specs.Payload.{indicatorOf, fragmentTypeOf, mpuOf, signallingOf, parsedOf, counterFits, aggregationFits, unitsFit}
+use Rattle.mmtp.specs.Payload.{tested, payloadOf}
 use Rattle.mmtp.specs.Unit.{fieldBytes, fieldsOf, singleFits, singleUnit, singleAt}
 use Rattle.reassembly.specs.Channel.{nextPsn, heard, gap, unheard}
 use Rattle.reassembly.specs.Join.{interrupted, begun, acted, joinOf}
@@ -35,7 +36,8 @@ use Rattle.capture.specs.Line.{field, placeText, carriedText, unitLine, 
 use Rattle.capture.specs.Command.{letterOf, slotSize, sizeOf, whole, idsOf, configOf}
 use Rattle.capture.specs.Session.{freshSession}
 use Rattle.capture.specs.Waits.{queueWaits, cursorWaits, waitsBy}
-use Rattle.capture.specs.Capture.{callOf, afterCall, doneOf, eventLine, tallied, closed, drainedBy, drainedOf, textBy, textOf, captureOf}
+use Rattle.capture.specs.Capture.{callOf, afterCall, doneOf, eventLine, tallied, closed, drainedBy, drainedOf, textBy}
+use Rattle.capture.specs.Capture.{textOf, captureOf}
 
 abbrev repeated : ℕ → List ℕ → List ℕ
 repeated zero xs = []
@@ -71,15 +73,16 @@ abbrev pub Worked : ℕ → Type 0
 Worked n = captureOf (replicate 21433 0) (replicate 16 0) (start ++ frame ++ slot ++ replicate n 76) ≡ printed
 
 pub worked : Worked 119
-unfolding be pasted partOf tab allBelow countBelow lastBelow dataBytes within used unused modeGood slotsOf modesGood modeFrom modeOf
-    slotLength chosen relativeStream ownSlot pointersAt layoutOf blankLayout decodeOf goodFirst total complete tooLong marked cutBy cut
-    packetAt endFrom lastPointer sound endWithin endBeyond heldTotal heldEnd continuationOf flowOf compressedOf behind
-    compressedHeader headerOf plain payloadStart fixedBytes extensionBytes extensionLength payloadAt lookupOf firstFrom readingOf
-    headRead lookedUp bodyRead indicatorOf fragmentTypeOf mpuOf signallingOf parsedOf counterFits aggregationFits unitsFit tested
-    payloadOf fieldBytes fieldsOf singleFits singleUnit singleAt nextPsn heard gap unheard interrupted begun acted joinOf cursorFrom
-    resumedAs movedMem continuedMem resumedMem copied resumedOf takenOf lostOf arrivedAt firstUnit collected giveOf joinedOf
-    takenFrom turnOf advancedOf slotAdvanced tailAdvanced left before twiceBelow twice freshState startRefusal startOf frameBusy
-    frameOf lossOf lostFrameOf shortBy refusalOf counted wrongLength slotOf lostSlotOf packetOf readOn readAll nextOf digits decimal
-    field placeText carriedText unitLine idText noteLine refusedLine endLine letterOf slotSize sizeOf whole idsOf configOf freshSession queueWaits
-    cursorWaits waitsBy callOf afterCall doneOf eventLine tallied closed drainedBy drainedOf textBy textOf captureOf
+unfolding be pasted partOf tab allBelow countBelow lastBelow dataBytes within used unused modeGood slotsOf modesGood modeFrom
+    modeOf slotLength chosen relativeStream ownSlot pointersAt layoutOf blankLayout decodeOf goodFirst total complete tooLong
+    marked cutBy cut packetAt endFrom lastPointer sound endWithin endBeyond heldTotal heldEnd continuationOf flowOf
+    compressedOf behind compressedHeader headerOf plain payloadStart fixedBytes extensionBytes extensionLength payloadAt
+    lookupOf firstFrom readingOf headRead lookedUp bodyRead indicatorOf fragmentTypeOf mpuOf signallingOf parsedOf counterFits
+    aggregationFits unitsFit tested payloadOf fieldBytes fieldsOf singleFits singleUnit singleAt nextPsn heard gap unheard
+    interrupted begun acted joinOf cursorFrom resumedAs movedMem continuedMem resumedMem copied resumedOf takenOf lostOf
+    arrivedAt firstUnit collected giveOf joinedOf takenFrom turnOf advancedOf slotAdvanced tailAdvanced left before twiceBelow
+    twice freshState startRefusal startOf frameBusy frameOf lossOf lostFrameOf shortBy refusalOf counted wrongLength slotOf
+    lostSlotOf packetOf readOn readAll nextOf digits decimal field placeText carriedText unitLine idText noteLine refusedLine
+    endLine letterOf slotSize sizeOf whole idsOf configOf freshSession queueWaits cursorWaits waitsBy callOf afterCall doneOf
+    eventLine tallied closed drainedBy drainedOf textBy textOf captureOf
 worked = refl

@@ -44,7 +44,8 @@ pub fn is_fit(phase: Phase, letter: Letter) -> bool
 // The call that a command makes.
 fn call(letter: Letter, st: State, packet: &mut [u8], collecting: &[u8], b: &[u8]) -> Called
     requires { ⌜ (1 ≤ length (now b)) × (sizeBy letter (now b) ≤ length (now b)) ⌝ }
-    ensures { λ r. ⌜ (r, now (packet .exit)) ≡ callOf letter st (now (packet .entry)) (now (collecting .entry)) (now (b .entry)) ⌝ }
+    ensures { λ r. ⌜ (r, now (packet .exit))
+        ≡ callOf letter st (now (packet .entry)) (now (collecting .entry)) (now (b .entry)) ⌝ }
 {
     match letter {
         Letter::Start => {

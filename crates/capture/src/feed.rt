@@ -2,6 +2,7 @@
 ghost use mathlib.Core.Path.{_≡_};
 ghost use Prim.Native.Nat.{min, _+_, _≤_};
 ghost use lib.ListN.{length};
+ghost use Rattle.capture.specs.Session.{isEnded};
 ghost use Rattle.capture.specs.Feed.{wantedOf, keptOf, Keeps, gatheredOf, ranOf, goesBy, fedOf};
 use crate::act::act;
 use crate::command::size;
@@ -97,6 +98,16 @@ fn run(
     pour(next, packet, collecting, out, acted.at)
 }
 
+pub fn is_ended(phase: Phase) -> bool
+    ensures { λ r. ⌜ r ≡ isEnded phase ⌝ }
+{
+    match phase {
+        Phase::Before => false,
+        Phase::Reading => false,
+        Phase::Ended => true,
+    }
+}
+
 // Whether another command is read: bytes are left, there is room for a line, and the session neither ended nor owes next.
 fn goes_on(session: Session, read: usize, size: usize, written: usize, room: usize) -> bool
     ensures { λ r. ⌜ r ≡ goesBy session read size written room ⌝ }
@@ -111,11 +122,7 @@ fn goes_on(session: Session, read: usize, size: usize, written: usize, room: usi
         return false;
     }
     let phase = session.phase;
-    match phase {
-        Phase::Before => true,
-        Phase::Reading => true,
-        Phase::Ended => false,
-    }
+    !is_ended(phase)
 }
 
 // Reads commands from a block until it is used up, or there is no room for a line, or the session ends or owes next.

@@ -3,10 +3,9 @@ ghost use mathlib.Core.Path.{_≡_};
 ghost use Prim.Native.Nat.{_+_, _*_, _≤_};
 ghost use mathlib.Core.Bool.{true};
 ghost use lib.ListN.{length};
-ghost use Rattle.intake.specs.Slot.{holding};
 ghost use Rattle.capture.specs.Text.{Put};
 ghost use Rattle.capture.specs.Waits.{isLine};
-ghost use Rattle.capture.specs.Session.{isReading, busy};
+ghost use Rattle.capture.specs.Session.{isReading, busy, withUnit, withState, withTally};
 ghost use Rattle.capture.specs.Capture.{eventLine, tallied, closed};
 ghost use Rattle.capture.specs.Steps.{roomy, Drains, pouredOf};
 use crate::line::LONGEST;
@@ -22,7 +21,8 @@ use delivery::cursor::find;
 use delivery::event::Event;
 use delivery::packet::arrive;
 use delivery::packet::receive;
-use intake::held::Held;
+use receiver::next::hold;
+use receiver::state::State;
 
 // Whether there is room for a longest line from `at` on.
 pub fn has_room(size: usize, at: usize) -> bool
@@ -70,6 +70,17 @@ fn put_event(out: &mut [u8], at: usize, tally: Tally, event: Event) -> usize
     }
 }
 
+// One more unit.
+pub fn count_unit(tally: Tally, len: usize) -> Tally
+    ensures { λ r. ⌜ r ≡ withUnit tally len ⌝ }
+{
+    Tally {
+        units: std::num::wrapping_add_u64(tally.units, 1),
+        bytes: std::num::wrapping_add_u64(tally.bytes, len as u64),
+        ..tally
+    }
+}
+
 pub fn count(tally: Tally, event: Event) -> Tally
     ensures { λ r. ⌜ r ≡ tallied tally event ⌝ }
 {
@@ -79,10 +90,10 @@ pub fn count(tally: Tally, event: Event) -> Tally
             notes: std::num::wrapping_add_u64(tally.notes, 1),
             ..tally
         },
-        Event::Unit(_) => Tally {
-            units: std::num::wrapping_add_u64(tally.units, 1),
-            ..tally
-        },
+        Event::Unit(given) => {
+            let place = given.place;
+            count_unit(tally, place.len)
+        }
         Event::Refused(_) => tally,
     }
 }
@@ -106,15 +117,26 @@ pub fn close(session: Session, event: Event) -> Session
     }
 }
 
-// A tail is held.
-fn hold(start: usize, len: usize) -> Held
-    ensures { λ r. ⌜ r ≡ holding start len ⌝ }
+// Where reading on stops: the session with the state and the counts that it has come to.
+fn stop(session: Session, state: State, tally: Tally, at: usize) -> Progress
+    ensures { λ r. ⌜ r ≡ record { session = withTally (withState session state) tally; at = at } ⌝ }
 {
-    Held {
-        on: true,
-        start,
-        len,
-    }
+    let session = Session {
+        state,
+        tally,
+        ..session
+    };
+    Progress { session, at }
+}
+
+// The same after an event that is no line.
+fn stop_after(session: Session, state: State, tally: Tally, at: usize, event: Event) -> Progress
+    ensures { λ r. ⌜ r ≡ record { session = closed (withTally (withState session state) tally) event; at = at } ⌝ }
+{
+    let stopped = stop(session, state, tally, at);
+    let last = stopped.session;
+    let session = close(last, event);
+    Progress { session, at }
 }
 
 // Reads on by `find` as next does, but keeps the state in its place over all events.
@@ -144,21 +166,10 @@ fn drain(
         let found = turn.found;
         match found {
             Found::Event(event) => {
-                let behind = put_event(out, place, tally, event);
-                place = behind;
-                let counted = count(tally, event);
-                tally = counted;
+                place = put_event(out, place, tally, event);
+                tally = count(tally, event);
                 if !is_line(event) {
-                    let last = Session {
-                        state: next,
-                        tally: counted,
-                        ..session
-                    };
-                    let session = close(last, event);
-                    return Progress {
-                        session,
-                        at: behind,
-                    };
+                    return stop_after(session, next, tally, place, event);
                 }
             }
             Found::Packet(start, end) => {
@@ -177,21 +188,11 @@ fn drain(
             }
             Found::Done => {
                 next.owed = false;
-                let session = Session {
-                    state: next,
-                    tally,
-                    ..session
-                };
-                return Progress { session, at: place };
+                return stop(session, next, tally, place);
             }
         }
     }
-    let session = Session {
-        state: next,
-        tally,
-        ..session
-    };
-    Progress { session, at: place }
+    stop(session, next, tally, place)
 }
 
 // Calls next until nothing waits or there is no room, and writes its lines.

@@ -87,7 +87,7 @@ fn advance_slot(c: Cursor, memory: &[u8]) -> Advanced
     }
 }
 
-fn advance(c: Cursor, memory: &[u8]) -> Advanced
+pub fn advance(c: Cursor, memory: &[u8]) -> Advanced
     ensures { λ r. ⌜ r ≡ advancedOf c (now (memory .entry)) ⌝ }
 {
     if c.note != 0 {
@@ -113,7 +113,7 @@ fn advance(c: Cursor, memory: &[u8]) -> Advanced
     }
 }
 
-fn is_event(event: Event) -> bool
+pub fn is_event(event: Event) -> bool
     ensures { λ r. ⌜ r ≡ isEvent event ⌝ }
 {
     match event {

@@ -14,7 +14,7 @@ use Rattle.capture.specs.Command.{letterOf, sizeOf, whole}
 use Rattle.capture.specs.Session.{isEnded, busy, withState, withTally, inPhase}
 use Rattle.capture.specs.Waits.{isLine}
 use Rattle.capture.specs.Capture.{fits, doneOf, Drained, behind, eventLine, tallied, closed, drainedOf, lastLine, reads, textOf}
-use Rattle.capture.proofs.Drained.{drain-step, drain-idle}
+use Rattle.capture.specs.Drains.{drain-step, drain-idle}
 use Rattle.capture.proofs.Pours.{closed-idle}
 use Rattle.capture.proofs.Texts.{whole-size, onFrom, text-step, text-behind}
 use Rattle.linked.specs.Calls.{callComes, nextCall, stepOf}

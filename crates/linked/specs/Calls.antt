@@ -5,8 +5,8 @@ use mathlib.Core.Bool.{Bool, true, false, cond, _&&_, _||_, not, and-false, and-
 use mathlib.Core.List.{List}
 use native.Mathlib.Omega.{arith}
 use borrow.Author.Tests.{eq-eqb, ne-eqb, le-leb, lt-leb}
-use lib.ListN.{length, getD, take, drop, take-append-drop}
-use lib.Seq.{length-take-le, drop-drop}
+use lib.ListN.{length, getD, take, drop}
+use lib.Seq.{drop-drop}
 use lib.Dec.{eqb}
 use Rattle.receiver.specs.Next.{nextOf}
 use Rattle.capture.specs.declared.command.Letter.{Letter}
@@ -14,7 +14,7 @@ use Rattle.capture.specs.declared.session.Phase.{Phase}
 use Rattle.capture.specs.declared.session.Phase.the-variants.{Before, Reading, Ended}
 use Rattle.capture.specs.declared.session.Progress.{Progress}
 use Rattle.capture.specs.declared.session.Session.{Session}
-use Rattle.capture.specs.Command.{letterOf, sizeOf, whole, size-grows}
+use Rattle.capture.specs.Command.{letterOf, sizeOf, whole}
 use Rattle.capture.specs.Session.{isEnded, busy, withState, withTally, freshSession}
 use Rattle.capture.specs.Capture.{fits, reads, doneOf, tallied, closed}
 use Rattle.capture.specs.Steps.{actedOf}
@@ -95,13 +95,6 @@ module _ (s : Session) (b : List ℕ) where
     comes-whole h =
         let r = and-eq-true-iff (reads s b) _ .0 (rw o at h) .0 in
         whole-size b (and-eq-true-iff (whole b) (not (isEnded (s .phase))) .0 r .0)
-
--- the bytes of a whole command, by themselves, are whole
-pub front-whole : (b : List ℕ) → 1 ≤ sizeOf b → sizeOf b ≤ length b → sizeOf (take (sizeOf b) b) ≤ length (take (sizeOf b) b)
-front-whole b o h =
-    let l = length-take-le (sizeOf b) b h in
-    let g = size-grows (take (sizeOf b) b) (drop (sizeOf b) b) (omega arith) in
-    omega (arith, rw (take-append-drop (sizeOf b) b) at g)
 
 module _ (s : Session) (p c b : List ℕ) where
   pub step-next : busy s ≡ true → (t : Session) (d : List ℕ) → (t, d) ≡ nextCall s p c

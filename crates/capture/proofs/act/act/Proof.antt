@@ -40,10 +40,13 @@ returns-2 c =
     let f = k .before .before .before .before in
     rw (c .after-call .ensures)
     (sym (acted-accepted _ _ _ _ _ _ _ (sym (f .before .letter-of .ensures))
-    (sym (f .is-fit .ensures) ∙ not-false _ (k .before .before .before .if1 .left)) _ _ (k .call .ensures) (c .before .if2 .taken)))
+    (sym (f .is-fit .ensures) ∙ not-false _ (k .before .before .before .if1 .left)) _ _ (k .call .ensures)
+    (c .before .if2 .taken)))
 
 put-refused-requires : tie.Need-put-refused-requires
-put-refused-requires c κs = c .before .before .before .before .before .before .before .before .before .before .before .before .before .before .before .before .before .before .pre .2
+put-refused-requires c κs =
+    let k = c .before .before .before .before .before .before .before .before in
+    k .before .before .before .before .before .before .before .before .before .before .pre .2
 
 same-length-2 : tie.Need-same-length-2
 same-length-2 c = search needs

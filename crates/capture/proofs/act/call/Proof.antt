@@ -50,10 +50,12 @@ enum-told-4 : tie.Need-enum-told-4
 enum-told-4 c = search needs
 
 sub-slot : tie.Need-sub-slot
-sub-slot c = slot-size-long _ (rw (c .before .enum-told4 .given .1) at (c .before .before .before .before .before .before .pre .1))
+sub-slot c =
+    slot-size-long _ (rw (c .before .enum-told4 .given .1) at (c .before .before .before .before .before .before .pre .1))
 
 part-slot-start : tie.Need-part-slot-start
-part-slot-start c = slot-size-long _ (rw (c .before .enum-told4 .given .1) at (c .before .before .before .before .before .before .pre .1))
+part-slot-start c =
+    slot-size-long _ (rw (c .before .enum-told4 .given .1) at (c .before .before .before .before .before .before .pre .1))
 
 part-slot-end : tie.Need-part-slot-end
 part-slot-end c = search needs

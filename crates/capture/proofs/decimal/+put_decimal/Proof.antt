@@ -1,6 +1,6 @@
 -- Why `put_decimal` meets its contract: all digits but the last are those of a tenth. The measure is the number.
 use Prim.Native.Nat.{ℕ, _+_, _/_, _%_, _<_, _≤_}
-use mathlib.Core.Path.{_≡_, sym, _∙_, ap, refl}
+use mathlib.Core.Path.{_≡_}
 use mathlib.Core.List.{List, [], _∷_}
 use native.Mathlib.Omega.{arith}
 use lib.ListN.{length, set, length-append, length-set}
@@ -32,15 +32,17 @@ more : (n : ℕ) → 10 ≤ n → n < 18446744073709551616 → length (decimal n
 more n h f = rw (decimal-more n h f, length-append)
 
 -- the last digit, behind those of a tenth
-behind : (out o : List ℕ) (at r n b : ℕ) → 10 ≤ n → n < 18446744073709551616 → at + length (decimal n) ≤ length out → (r, o) ≡ wrote out at (decimal (n / 10))
-    → b ≡ digit (n % 10) → (r < length o) × ((r + 1, set o r b) ≡ wrote out at (decimal n))
+behind : (out o : List ℕ) (at r n b : ℕ) → 10 ≤ n → n < 18446744073709551616 → at + length (decimal n) ≤ length out
+    → (r, o) ≡ wrote out at (decimal (n / 10)) → b ≡ digit (n % 10)
+    → (r < length o) × ((r + 1, set o r b) ≡ wrote out at (decimal n))
 behind out o at r n b h f l e d =
     let s = decimal (n / 10) in
     let m = more n h f in
     let i = written-end _ _ _ _ s e in
     let k = written-length _ _ _ _ s e (omega arith) in
     let z : r < length o = omega arith in
-    (z, rw (d, decimal-more n h f) (written-more _ _ _ _ s e _ _ (digit (n % 10) ∷ []) (wrote-byte o r (digit (n % 10)) z) (omega arith)))
+    let w = wrote-byte o r (digit (n % 10)) z in
+    (z, rw (d, decimal-more n h f) (written-more _ _ _ _ s e _ _ (digit (n % 10) ∷ []) w (omega arith)))
 
 module _ (t : ℕ) where
   last : (c : lts.After-character2 (character.Asked, character.Learnt, below t, reads.Post) (given t) reads.Post) →
@@ -52,7 +54,8 @@ module _ (t : ℕ) where
   last c =
       let w = c .before .before .before in
       let s = w .before .before .before .before in
-      behind _ _ _ _ _ _ (w .before .before .if1 .left) (s .fits .n .fits) (s .pre .1) (w .put-decimal .ensures) (c .character2 .ensures)
+      behind _ _ _ _ _ _ (w .before .before .if1 .left) (s .fits .n .fits) (s .pre .1) (w .put-decimal .ensures)
+      (c .character2 .ensures)
 
   character-requires : lts.Need-character-requires (character.Asked, character.Learnt, below t, reads.Post) (given t) reads.Post
   character-requires c κs = search needs
@@ -72,13 +75,15 @@ module _ (t : ℕ) where
       rw (c .character .ensures, decimal-one _ (c .before .if1 .taken))
       (wrote-byte _ _ _ (omega (arith, one (s .args .n) (c .before .if1 .taken))))
 
-  put-decimal-requires : lts.Need-put-decimal-requires (character.Asked, character.Learnt, below t, reads.Post) (given t) reads.Post
+  put-decimal-requires :
+      lts.Need-put-decimal-requires (character.Asked, character.Learnt, below t, reads.Post) (given t) reads.Post
   put-decimal-requires c κs =
       let s = c .before .before .before in
       let m = more (s .args .n) (c .before .if1 .left) (s .fits .n .fits) in
       (omega (arith, s .pre .0), omega (arith, s .pre .1))
 
-  character-requires-2 : lts.Need-character-requires-2 (character.Asked, character.Learnt, below t, reads.Post) (given t) reads.Post
+  character-requires-2 :
+      lts.Need-character-requires-2 (character.Asked, character.Learnt, below t, reads.Post) (given t) reads.Post
   character-requires-2 c κs = omega arith
 
   slice-write-out-2 : lts.Need-slice-write-out-2 (character.Asked, character.Learnt, below t, reads.Post) (given t) reads.Post

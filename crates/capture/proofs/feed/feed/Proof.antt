@@ -6,10 +6,11 @@ use mathlib.Core.List.{List}
 use native.Mathlib.Omega.{arith}
 use borrow.Author.Needs.{needs}
 use borrow.Author.Tests.{leb-true}
-use lib.ListN.{length, take, length-take}
+use lib.ListN.{length, length-take}
 use lib.Seq.{length-take-le}
 use Rattle.capture.specs.declared.session.Session.{Session}
-use Rattle.capture.specs.Feed.{World, Keeps, goesBy, goes-room, goes-read, gathered-some, turn-by, fedFrom, fed-turn, fed-stops, fed-short, fed-long}
+use Rattle.capture.specs.Feed.{World, Keeps, goesBy, goes-room, goes-read, gathered-some, turn-by, fedFrom, fed-turn}
+use Rattle.capture.specs.Feed.{fed-stops, fed-short, fed-long}
 use Rattle.capture.proofs.feed.feed.Statement.{statement}
 use Rattle.capture.proofs.feed.feed.Tie as tie
 
@@ -27,25 +28,26 @@ world s held command read p c out written =
     }
 
 abbrev Inv-loop : tie.InvT-loop
-Inv-loop held command₀ block packet₀ collecting₀ out₀ next₀ kept₀ read₀ written₀ command packet collecting out next kept read written =
+Inv-loop _ command₀ block packet₀ collecting₀ out₀ next₀ kept₀ _ _ command packet collecting out next kept read written =
     (fedFrom block (world next kept command read packet collecting out written)
     ≡ fedFrom block (world next₀ kept₀ command₀ 0 packet₀ collecting₀ out₀ 0))
     × Keeps command kept × (read ≤ length block) × (65538 ≤ length command) × (length command ≡ length command₀)
     × (length packet ≡ length packet₀) × (length collecting ≡ length collecting₀) × (length out ≡ length out₀)
 
 abbrev μ-loop : tie.MeasureT-loop
-μ-loop held command₀ block packet₀ collecting₀ out₀ next₀ kept₀ read₀ written₀ command packet collecting out next kept read written =
-    length block - read
+μ-loop _ _ block _ _ _ _ _ _ _ _ _ _ _ _ _ read _ = length block - read
 
 -- the turn is made
 goes : (g : tie.After-gather Inv-loop μ-loop) → let l = g .before .before .before .before in
-    goesBy (l .loop .next) (l .loop .read) (length (l .before .before .before .before .before .before .before .before .before .args .block .now)) (l .loop .written) (length (l .loop .out)) ≡ true
+    let block = l .before .before .before .before .before .before .before .before .before .args .block .now in
+    goesBy (l .loop .next) (l .loop .read) (length block) (l .loop .written) (length (l .loop .out)) ≡ true
 goes g = let i = g .before .before in sym (i .before .goes-on .ensures) ∙ i .if2 .taken
 
 -- what came to the command memory
 took : (g : tie.After-gather Inv-loop μ-loop) → let l = g .before .before .before .before in
+    let block = l .before .before .before .before .before .before .before .before .before .args .block .now in
     (1 ≤ g .gather .result) × (l .loop .kept + g .gather .result ≤ 65538)
-    × (l .loop .read + g .gather .result ≤ length (l .before .before .before .before .before .before .before .before .before .args .block .now))
+    × (l .loop .read + g .gather .result ≤ length block)
     × (length (g .gather .last .0) ≡ length (l .loop .command))
 took g =
     let l = g .before .before .before .before in
@@ -70,7 +72,9 @@ add-end : tie.Need-add-end Inv-loop μ-loop
 add-end c = record { fits = omega (arith, took (c .before .before) .1) }
 
 slice-reshare-prefix-run : tie.Need-slice-reshare-prefix-run Inv-loop μ-loop
-slice-reshare-prefix-run c = omega (arith, took (c .before .before) .1, took (c .before .before) .3, c .before .before .before .before .before .before .loop .inv .3)
+slice-reshare-prefix-run c =
+    let t = took (c .before .before) in
+    omega (arith, t .1, t .3, c .before .before .before .before .before .before .loop .inv .3)
 
 slice-aggregate-run : tie.Need-slice-aggregate-run Inv-loop μ-loop
 slice-aggregate-run c =
@@ -88,15 +92,20 @@ run-requires c κs =
 keep-requires-2 : tie.Need-keep-requires-2 Inv-loop μ-loop
 keep-requires-2 c κs = search needs
 
+-- from the turn's end back to what was gathered
+abbrev gathered : tie.After-keep2 Inv-loop μ-loop → tie.After-gather Inv-loop μ-loop
+gathered c =
+    let r = c .before .before .before .before .before .before .before .before .before in
+    r .before .before .before .before .before .before .before
+
 add-read : tie.Need-add-read Inv-loop μ-loop
 add-read c =
-    let g = c .before .before .before .before .before .before .before .before .before .before .before .before .before .before .before .before in
-    record { fits = omega (arith, took g .2, g .before .before .before .before .before .before .before .before .before .before .before .before .before .good .1 .1 .1 .0) }
+    let g = gathered c in
+    let s = g .before .before .before .before .before .before .before .before .before .before .before .before .before in
+    record { fits = omega (arith, took g .2, s .good .1 .1 .1 .0) }
 
 loop-less : tie.Need-loop-less Inv-loop μ-loop
-loop-less c =
-    let g = c .before .before .before .before .before .before .before .before .before .before .before .before .before .before .before .before in
-    omega (arith, took g .0, took g .2)
+loop-less c = let g = gathered c in omega (arith, took g .0, took g .2)
 
 loop-again : tie.Need-loop-again Inv-loop μ-loop
 loop-again c =

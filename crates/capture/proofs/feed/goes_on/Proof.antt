@@ -31,49 +31,19 @@ returns-3 c =
       sym (c .before .is-busy .ensures) ∙ c .if3 .taken,
     )
 
-enum-told : tie.Need-enum-told
-enum-told c = search needs
-
-enum-told-2 : tie.Need-enum-told-2
-enum-told-2 c = search needs
-
-enum-told-3 : tie.Need-enum-told-3
-enum-told-3 c = search needs
+is-ended-requires : tie.Need-is-ended-requires
+is-ended-requires c κs = search needs
 
 returns-4 : tie.Need-returns-4
 unfolding goesBy
 returns-4 c =
-    let b = c .before .before in
+    let b = c .before in
     let r = b .before .before in
     rw (
       lt-ltb _ _ (r .before .before .if1 .left),
       sym (r .before .has-room .ensures) ∙ not-false _ (r .if2 .left),
       sym (b .before .is-busy .ensures) ∙ b .if3 .left,
-      c .enum-told .given .1,
-    )
-
-returns-5 : tie.Need-returns-5
-unfolding goesBy
-returns-5 c =
-    let b = c .before .before in
-    let r = b .before .before in
-    rw (
-      lt-ltb _ _ (r .before .before .if1 .left),
-      sym (r .before .has-room .ensures) ∙ not-false _ (r .if2 .left),
-      sym (b .before .is-busy .ensures) ∙ b .if3 .left,
-      c .enum-told2 .given .1,
-    )
-
-returns-6 : tie.Need-returns-6
-unfolding goesBy
-returns-6 c =
-    let b = c .before .before in
-    let r = b .before .before in
-    rw (
-      lt-ltb _ _ (r .before .before .if1 .left),
-      sym (r .before .has-room .ensures) ∙ not-false _ (r .if2 .left),
-      sym (b .before .is-busy .ensures) ∙ b .if3 .left,
-      c .enum-told3 .given .1,
+      c .is-ended .ensures,
     )
 
 pub goes-on-spec : {M : Type 1} → statement M
@@ -85,9 +55,5 @@ goes-on-spec =
     returns-2
     is-busy-requires
     returns-3
-    enum-told
-    enum-told-2
-    enum-told-3
-    returns-4
-    returns-5
-    returns-6)
+    is-ended-requires
+    returns-4)

@@ -19,7 +19,8 @@ put-end-requires : tie.Need-put-end-requires
 put-end-requires c κs =
     let r = c .before in
     let s = r .before .before .before in
-    let l = leb-true (s .args .at + 152) (length (s .args .out .now)) (sym (r .before .has-room .ensures) ∙ not-false _ (r .if1 .left)) in
+    let l = leb-true (s .args .at + 152) (length (s .args .out .now))
+    (sym (r .before .has-room .ensures) ∙ not-false _ (r .if1 .left)) in
     omega arith
 
 same-length : tie.Need-same-length

@@ -40,7 +40,8 @@ returns c =
     let s = a .before .before .before in
     let d = decimal-20 (s .args .n) in
     let e = written-end _ _ _ _ _ (a .put-decimal .ensures) in (
-      written-more _ _ _ _ _ (a .put-decimal .ensures) _ _ (s .args .end ∷ []) (wrote-byte _ _ _ (room c .0)) (omega (arith, s .pre)),
+      written-more _ _ _ _ _ (a .put-decimal .ensures) _ _ (s .args .end ∷ []) (wrote-byte _ _ _ (room c .0))
+          (omega (arith, s .pre)),
       omega arith,
     )
 

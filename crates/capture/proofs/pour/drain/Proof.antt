@@ -34,6 +34,16 @@ Inv-loop session packet collecting₀ out₀ at next₀ config tally₀ place₀
 abbrev μ-loop : tie.MeasureT-loop
 μ-loop session packet collecting₀ out₀ at next₀ config tally₀ place₀ collecting out next tally place = waits next packet
 
+-- from what find answered back to the front of the loop, and from an event's line and from a packet back to what find answered
+abbrev front : tie.After-find Inv-loop μ-loop → tie.At-loop Inv-loop μ-loop
+front d = d .before .before .before .before .before
+
+abbrev event-found : tie.After-put-event Inv-loop μ-loop → tie.After-find Inv-loop μ-loop
+event-found w = w .before .before .before .before .before .before .before
+
+abbrev packet-found : tie.After-arrive Inv-loop μ-loop → tie.After-find Inv-loop μ-loop
+packet-found a = a .before .before .before .before .before .before
+
 -- there is room for a line
 room : (c : tie.Then1 Inv-loop μ-loop) → roomy (length (c .before .before .loop .out)) (c .before .before .loop .place) ≡ true
 room c = sym (c .before .has-room .ensures) ∙ c .if1 .taken
@@ -43,8 +53,9 @@ below : (d : tie.After-place Inv-loop μ-loop) → d .place .result < 16
 below d = rw (d .place .ensures) (arrived-below _ _ _ _ _ (sym (d .before .arrive .ensures)))
 
 -- it has room to collect
-fits : (d : tie.After-arrive Inv-loop μ-loop) → let l = d .before .before .before .before .before .before .before .before .before .before .before in
-    Fits (d .arrive .result) (l .before .before .before .before .before .before .before .args .session .state .config .limit) (length (l .loop .collecting))
+fits : (d : tie.After-arrive Inv-loop μ-loop) → let l = front (packet-found d) in
+    let session = l .before .before .before .before .before .before .before .args .session in
+    Fits (d .arrive .result) (session .state .config .limit) (length (l .loop .collecting))
 fits d =
     let l = d .before .before .before .before .before .before .before .before .before .before .before in
     arrived-fits _ _ _ _ _ _ (sym (d .arrive .ensures)) (rw (l .loop .inv .2) at (short-room _ _ _ (l .loop .inv .1 .long)))
@@ -70,38 +81,40 @@ count-requires c κs = search needs
 is-line-requires : tie.Need-is-line-requires Inv-loop μ-loop
 is-line-requires c κs = search needs
 
-close-requires : tie.Need-close-requires Inv-loop μ-loop
-close-requires c κs = search needs
+stop-after-requires : tie.Need-stop-after-requires Inv-loop μ-loop
+stop-after-requires c κs = search needs
 
 same-length : tie.Need-same-length Inv-loop μ-loop
-same-length c = c .before .before .before .before .before .before .before .before .before .before .before .before .before .before .before .before .before .before .loop .inv .3
+same-length c = front (event-found (c .before .before .before .before .before .before)) .loop .inv .3
 
 same-length-2 : tie.Need-same-length-2 Inv-loop μ-loop
-same-length-2 c = c .before .before .before .before .before .before .put-event .kept .0 ∙ c .before .before .before .before .before .before .before .before .before .before .before .before .before .before .before .before .before .before .loop .inv .4
+same-length-2 c =
+    let w = c .before .before .before .before .before .before in
+    w .put-event .kept .0 ∙ front (event-found w) .loop .inv .4
 
 returns : tie.Need-returns Inv-loop μ-loop
 returns c =
     let w = c .before .before .before .before .before .before in
-    let d = w .before .before .before .before .before .before .before in
-    let l = d .before .before .before .before .before .loop in
+    let d = event-found w in
+    let l = front d .loop in
     let f = rw (d .find .ensures) at (w .before .before .before .found .given .1) in
-    rw (c .close .ensures, c .before .before .before .count .ensures, d .find .ensures)
+    rw (c .stop-after .ensures, c .before .before .before .count .ensures, d .find .ensures)
     (sym (pour-last _ _ _ _ _ (l .inv .1) (room (d .before .before .before)) _ f _ _ (w .put-event .ensures .0)
     (sym (c .before .before .is-line .ensures) ∙ not-true _ (c .before .if2 .taken))) ∙ l .inv .0)
 
 loop-less : tie.Need-loop-less Inv-loop μ-loop
 loop-less c =
     let w = c .before .before .before .before .before in
-    let d = w .before .before .before .before .before .before .before in
-    let l = d .before .before .before .before .before .loop in
+    let d = event-found w in
+    let l = front d .loop in
     let f = rw (d .find .ensures) at (w .before .before .before .found .given .1) in
     rw (d .find .ensures) (turn-falls (l .next .queue) (l .next .cursor) _ .0 (rw f))
 
 loop-again : tie.Need-loop-again Inv-loop μ-loop
 loop-again c =
     let w = c .before .before .before .before .before in
-    let d = w .before .before .before .before .before .before .before in
-    let l = d .before .before .before .before .before .loop in
+    let d = event-found w in
+    let l = front d .loop in
     let f = rw (d .find .ensures) at (w .before .before .before .found .given .1) in (
       rw (c .before .before .count .ensures, d .find .ensures)
           (sym (pour-line _ _ _ _ _ (l .inv .1) (room (d .before .before .before)) _ f _ _ (w .put-event .ensures .0)
@@ -138,9 +151,10 @@ element-set-from-after c = below (c .before .before .before .before .before .bef
 
 loop-less-2 : tie.Need-loop-less-2 Inv-loop μ-loop
 loop-less-2 c =
-    let d = c .before .before .before .before .before .before .before .before .before .before .before .before .before .before in
-    let l = d .before .before .before .before .before .loop in
-    let f = rw (d .find .ensures) at (c .before .before .before .before .before .before .before .before .before .before .found2 .given .1) in
+    let a = c .before .before .before .before .before .before .before .before in
+    let d = packet-found a in
+    let l = front d .loop in
+    let f = rw (d .find .ensures) at (a .before .before .found2 .given .1) in
     rw (d .find .ensures) (turn-falls (l .next .queue) (l .next .cursor) _ .1 (rw f) _)
 
 loop-again-2 : tie.Need-loop-again-2 Inv-loop μ-loop
@@ -155,7 +169,8 @@ loop-again-2 c =
     let z : length (x .last .1 .1 .1 .1 .0) ≡ length (l .collecting) =
     ap (λ (y : JoinedPacket × List ℕ). length (y .1)) (x .ensures) ∙ length-received _ _ _ _ _ _ (fits a) in (
       rw (d .find .ensures, k .ensures)
-          (sym (pour-on _ _ _ _ _ _ _ (l .inv .1) (record { owed = l .inv .1 .owed; long = rw z (l .inv .1 .long) }) (room (d .before .before .before))
+          (sym (pour-on _ _ _ _ _ _ _ (l .inv .1) (record { owed = l .inv .1 .owed; long = rw z (l .inv .1 .long) })
+          (room (d .before .before .before))
           (read-received (l .next) _ (l .collecting) _ _ (a .arrive .result) _ _ e
           (rw (l .inv .2) (sym (a .arrive .ensures)))
           (rw (l .inv .2, ← k .ensures, ← d .find .ensures) (x .ensures))))
@@ -175,17 +190,19 @@ hold-requires c κs = search needs
 loop-less-3 : tie.Need-loop-less-3 Inv-loop μ-loop
 loop-less-3 c =
     let d = c .before .before .before .before .before .before in
-    let l = d .before .before .before .before .before .loop in
+    let l = front d .loop in
     let f = rw (d .find .ensures) at (c .before .before .found3 .given .1) in
     rw (d .find .ensures) (turn-falls (l .next .queue) (l .next .cursor) _ .1 (rw f) _)
 
 loop-again-3 : tie.Need-loop-again-3 Inv-loop μ-loop
 loop-again-3 c =
     let d = c .before .before .before .before .before .before in
-    let l = d .before .before .before .before .before .loop in
+    let l = front d .loop in
     let e = rw (d .find .ensures) at (c .before .before .found3 .given .1) in (
       rw (c .hold .ensures, d .find .ensures)
-          (sym (pour-on _ _ _ _ _ _ _ (l .inv .1) (record { owed = l .inv .1 .owed; long = l .inv .1 .long }) (room (d .before .before .before)) (read-tail (l .next) _ (l .collecting) _ _ e)) ∙ l .inv .0),
+          (sym (pour-on _ _ _ _ _ _ _ (l .inv .1) (record { owed = l .inv .1 .owed; long = l .inv .1 .long })
+          (room (d .before .before .before)) (read-tail (l .next) _ (l .collecting) _ _ e))
+          ∙ l .inv .0),
       record { owed = l .inv .1 .owed; long = l .inv .1 .long },
       l .inv .2,
       l .inv .3,
@@ -195,6 +212,9 @@ loop-again-3 c =
 enum-told : tie.Need-enum-told Inv-loop μ-loop
 enum-told c = search needs
 
+stop-requires : tie.Need-stop-requires Inv-loop μ-loop
+stop-requires c κs = search needs
+
 same-length-3 : tie.Need-same-length-3 Inv-loop μ-loop
 same-length-3 c = search needs
 
@@ -203,10 +223,14 @@ same-length-4 c = search needs
 
 returns-2 : tie.Need-returns-2 Inv-loop μ-loop
 returns-2 c =
-    let d = c .before .before .before .before in
-    let l = d .before .before .before .before .before .loop in
-    let e = rw (d .find .ensures) at (c .enum-told .given .1) in
-    rw (d .find .ensures) (sym (pour-done _ _ _ _ _ (l .inv .1) (room (d .before .before .before)) e) ∙ l .inv .0)
+    let d = c .before .before .before .before .before in
+    let l = front d .loop in
+    let e = rw (d .find .ensures) at (c .before .enum-told .given .1) in
+    rw (c .stop .ensures, d .find .ensures)
+    (sym (pour-done _ _ _ _ _ (l .inv .1) (room (d .before .before .before)) e) ∙ l .inv .0)
+
+stop-requires-2 : tie.Need-stop-requires-2 Inv-loop μ-loop
+stop-requires-2 c κs = search needs
 
 same-length-5 : tie.Need-same-length-5 Inv-loop μ-loop
 same-length-5 c = search needs
@@ -216,9 +240,9 @@ same-length-6 c = search needs
 
 returns-3 : tie.Need-returns-3 Inv-loop μ-loop
 returns-3 c =
-    let l = c .before .before .loop in
-    let r = sym (c .before .has-room .ensures) ∙ c .if1 .left in
-    sym (pour-stops _ _ _ _ _ (rw (l .inv .1 .owed, r))) ∙ l .inv .0
+    let l = c .before .before .before .loop in
+    let r = sym (c .before .before .has-room .ensures) ∙ c .before .if1 .left in
+    rw (c .stop2 .ensures) (sym (pour-stops _ _ _ _ _ (rw (l .inv .1 .owed, r))) ∙ l .inv .0)
 
 pub drain-spec : {M : Type 1} → statement M
 drain-spec =
@@ -233,7 +257,7 @@ drain-spec =
     put-event-requires
     count-requires
     is-line-requires
-    close-requires
+    stop-after-requires
     same-length
     same-length-2
     returns
@@ -254,9 +278,11 @@ drain-spec =
     loop-less-3
     loop-again-3
     enum-told
+    stop-requires
     same-length-3
     same-length-4
     returns-2
+    stop-requires-2
     same-length-5
     same-length-6
     returns-3)

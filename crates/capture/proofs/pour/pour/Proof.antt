@@ -31,7 +31,8 @@ put-refused-requires : tie.Need-put-refused-requires
 put-refused-requires c κs =
     let r = c .before .before .before .before .before in
     let s = r .before .before .before .before .before .before .before in
-    let l = leb-true (s .args .at + 152) (length (s .args .out .now)) (sym (r .before .has-room .ensures) ∙ not-false _ (r .if2 .left)) in
+    let l = leb-true (s .args .at + 152) (length (s .args .out .now))
+    (sym (r .before .has-room .ensures) ∙ not-false _ (r .if2 .left)) in
     omega arith
 
 same-length : tie.Need-same-length

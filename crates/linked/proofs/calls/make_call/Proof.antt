@@ -4,8 +4,8 @@ use mathlib.Core.Path.{sym, _∙_}
 use native.Mathlib.Omega.{arith}
 use lib.ListN.{length}
 use lib.Seq.{length-take-le}
-use Rattle.capture.specs.Command.{sizeOf}
-use Rattle.linked.specs.Calls.{comes-whole, front-whole, step-next, step-command}
+use Rattle.capture.specs.Command.{sizeOf, front-whole}
+use Rattle.linked.specs.Calls.{comes-whole, step-next, step-command}
 use borrow.Author.Needs.{needs}
 use Rattle.linked.proofs.calls.make_call.Statement.{statement}
 use Rattle.linked.proofs.calls.make_call.Tie as tie
