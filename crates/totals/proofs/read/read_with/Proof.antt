@@ -1,0 +1,163 @@
+-- Why `read_with` meets its contract: each step leaves a session that ends as the capture does.
+use Prim.Native.Nat.{ℕ, _+_, _-_, _≤_}
+use mathlib.Core.Path.{_≡_, refl, sym, _∙_, ap}
+use mathlib.Core.Bool.{true, false, not, and-eq-true-iff}
+use mathlib.Core.List.{List, []}
+use native.Mathlib.Omega.{arith}
+use borrow.Author.Needs.{needs}
+use lib.ListN.{length, take, drop, length-drop}
+use lib.Seq.{take-all, drop-drop}
+use Rattle.capture.specs.declared.session.Tally.{Tally}
+use Rattle.capture.specs.Command.{sizeOf, whole}
+use Rattle.capture.specs.Session.{isEnded, busy, freshSession}
+use Rattle.capture.specs.Capture.{reads}
+use Rattle.capture.proofs.Texts.{whole-size}
+use Rattle.totals.specs.Drain.{drained-idle}
+use Rattle.totals.specs.Ends.{steppedOf, Ends, stops, ends-step}
+use Rattle.totals.proofs.read.read_with.Statement.{statement}
+use Rattle.totals.proofs.read.read_with.Tie as tie
+
+abbrev Inv-loop : tie.InvT-loop
+Inv-loop capture packet₀ collecting₀ session₀ at₀ packet collecting session at =
+    (at ≤ length capture) × (busy session ≡ false) × (length packet ≡ length packet₀)
+    × (length collecting ≡ length collecting₀)
+    × ((t : Tally) (q e : List ℕ) → Ends session packet collecting (drop at capture) t q e
+    → Ends freshSession packet₀ collecting₀ capture t q e)
+
+abbrev μ-loop : tie.MeasureT-loop
+μ-loop capture packet₀ collecting₀ session₀ at₀ packet collecting session at = length capture - at
+
+-- the bytes that are left
+rest : (b : List ℕ) (n : ℕ) → take (length b - n) (drop n b) ≡ drop n b
+rest b n = take-all (length b - n) (drop n b) (rw (length-drop n b) (omega arith))
+
+-- a command is read from them
+read : (e : tie.Then1 Inv-loop μ-loop) → let l = e .before .before .before in
+    reads (l .loop .session) (drop (l .loop .at) (l .before .before .before .before .before .args .capture .now)) ≡ true
+read e =
+    let l = e .before .before .before in
+    rw (rest (l .before .before .before .before .before .args .capture .now) (l .loop .at)) at
+    (sym (e .before .is-read .ensures) ∙ e .if1 .taken)
+
+-- what it leaves, and how it ends from there
+left : (m : tie.After-step Inv-loop μ-loop) → let l = m .before .before .before .before .before .before .before in
+    (m .step .result, m .step .last .1 .1 .0, m .step .last .1 .1 .1 .0)
+    ≡ steppedOf (l .loop .session) (l .loop .packet) (l .loop .collecting)
+    (drop (l .loop .at) (l .before .before .before .before .before .args .capture .now))
+left m =
+    let l = m .before .before .before .before .before .before .before in
+    rw (rest (l .before .before .before .before .before .args .capture .now) (l .loop .at)) at (m .step .ensures)
+
+goes-on : (m : tie.After-step Inv-loop μ-loop) (t : Tally) (q e : List ℕ)
+    → let l = m .before .before .before .before .before .before .before in
+    let b = drop (l .loop .at) (l .before .before .before .before .before .args .capture .now) in
+    (busy (m .step .result .session) ≡ false) × (m .step .result .read ≡ sizeOf b)
+    × (Ends (m .step .result .session) (m .step .last .1 .1 .0) (m .step .last .1 .1 .1 .0) (drop (sizeOf b) b) t q e
+    → Ends (l .loop .session) (l .loop .packet) (l .loop .collecting) b t q e)
+goes-on m t q e =
+    let l = m .before .before .before .before .before .before .before in
+    ends-step {t = t} {m = q} {e = e} _ _ _ (left m) (l .loop .inv .1) (read (m .before .before .before .before))
+
+-- it read a byte at least, and no more than there were
+within : (m : tie.After-step Inv-loop μ-loop) → let l = m .before .before .before .before .before .before .before in
+    (1 ≤ m .step .result .read)
+    × (l .loop .at + m .step .result .read ≤ length (l .before .before .before .before .before .args .capture .now))
+within m =
+    let l = m .before .before .before .before .before .before .before in
+    let b = l .before .before .before .before .before .args .capture .now in
+    let r = drop (l .loop .at) b in
+    let w = whole-size r (and-eq-true-iff (whole r) (not (isEnded (l .loop .session .phase))) .0
+    (read (m .before .before .before .before)) .0) in
+    let q = goes-on m (l .loop .session .tally) [] [] .1 in
+    let n = length-drop (l .loop .at) b in
+    (omega (arith, w, q), omega (arith, w, q, n, l .loop .inv .0))
+
+begin-requires : tie.Need-begin-requires Inv-loop μ-loop
+begin-requires c κs = search needs
+
+loop-holds : tie.Need-loop-holds Inv-loop μ-loop
+unfolding freshSession
+loop-holds c = (omega arith, rw (c .begin .ensures) refl, refl, refl, λ t q e n. rw (← c .begin .ensures) n)
+
+sub-is-read : tie.Need-sub-is-read Inv-loop μ-loop
+sub-is-read c = search needs
+
+part-is-read-start : tie.Need-part-is-read-start Inv-loop μ-loop
+part-is-read-start c = search needs
+
+part-is-read-end : tie.Need-part-is-read-end Inv-loop μ-loop
+part-is-read-end c = search needs
+
+is-read-requires : tie.Need-is-read-requires Inv-loop μ-loop
+is-read-requires c κs = search needs
+
+sub-step : tie.Need-sub-step Inv-loop μ-loop
+sub-step c = search needs
+
+part-step-start : tie.Need-part-step-start Inv-loop μ-loop
+part-step-start c = search needs
+
+part-step-end : tie.Need-part-step-end Inv-loop μ-loop
+part-step-end c = search needs
+
+step-requires : tie.Need-step-requires Inv-loop μ-loop
+step-requires c κs = rw (rest _ _) (read (c .before .before .before))
+
+add-at : tie.Need-add-at Inv-loop μ-loop
+add-at c =
+    let m = c .before .before .before .before .before .before in
+    let s = m .before .before .before .before .before .before .before .before .before .before .before .before in
+    record { fits = omega (arith, within m, s .good .0) }
+
+loop-less : tie.Need-loop-less Inv-loop μ-loop
+loop-less c =
+    let m = c .before .before .before .before .before .before in
+    omega (arith, within m)
+
+loop-again : tie.Need-loop-again Inv-loop μ-loop
+loop-again c =
+    let m = c .before .before .before .before .before .before in
+    let l = m .before .before .before .before .before .before .before in
+    let b = l .before .before .before .before .before .args .capture .now in (
+      within m .1,
+      goes-on m (l .loop .session .tally) [] [] .0,
+      m .step .kept .1 .1 .0 ∙ l .loop .inv .2,
+      m .step .kept .1 .1 .1 .0 ∙ l .loop .inv .3,
+      λ t q e n. l .loop .inv .4 t q e (goes-on m t q e .2 (rw (drop-drop _ (l .loop .at) b, ← goes-on m t q e .1) n)),
+    )
+
+same-length : tie.Need-same-length Inv-loop μ-loop
+same-length c = search needs
+
+same-length-2 : tie.Need-same-length-2 Inv-loop μ-loop
+same-length-2 c = search needs
+
+returns : tie.Need-returns Inv-loop μ-loop
+returns c =
+    let l = c .before .before .before .before in
+    let b = l .before .before .before .before .before .args .capture .now in
+    let h = rw (rest b (l .loop .at)) at (sym (c .before .before .is-read .ensures) ∙ c .before .if1 .left) in
+    l .loop .inv .4 _ _ _ (stops (l .loop .session, l .loop .collecting) (drained-idle _ _ _ (l .loop .inv .1)) h refl refl refl)
+
+pub read-with-spec : {M : Type 1} → statement M
+read-with-spec =
+    tie.close
+    (tie.spec
+    Inv-loop
+    μ-loop
+    begin-requires
+    loop-holds
+    sub-is-read
+    part-is-read-start
+    part-is-read-end
+    is-read-requires
+    sub-step
+    part-step-start
+    part-step-end
+    step-requires
+    add-at
+    loop-less
+    loop-again
+    same-length
+    same-length-2
+    returns)

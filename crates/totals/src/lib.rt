@@ -1,0 +1,6 @@
+// Totals of a capture in memory: its frames, units, notes and bytes of units, without its lines.
+pub mod count;
+pub mod drain;
+pub mod linkage;
+pub mod packet;
+pub mod read;
