@@ -3,6 +3,8 @@ mod pump;
 
 use capture::finish::begin;
 use capture::finish::finish;
+use libc::STDOUT_FILENO;
+use wire::memory::part;
 
 // The turns are counted down from a number that no run uses up.
 fn main() {
@@ -23,10 +25,12 @@ fn main() {
             &mut collecting,
             &mut out,
         );
+        p = pump::tell(p, io::write_all(STDOUT_FILENO, part(&out, 0, p.written)));
         p = pump::pour_on(p, &packet, &mut collecting, &mut out);
+        p = pump::tell(p, io::write_all(STDOUT_FILENO, part(&out, 0, p.written)));
         turns -= 1;
     }
     let session = p.session;
     let end = finish(session.tally, &mut out, 0);
-    pump::put(&out, end);
+    io::write_all(STDOUT_FILENO, part(&out, 0, end));
 }

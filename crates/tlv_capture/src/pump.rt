@@ -1,10 +1,12 @@
-// From standard input to the capture library, block by block, and from there to standard output.
+// From blocks of standard input to the capture library, and from there to text for standard output.
+ghost use mathlib.Core.Path.{_≡_};
+ghost use lib.ListN.{length};
+ghost use Rattle.tlv_capture.specs.Pump.{freshPump, wantsOf, filledOf, Refilled, anyOf, fedOn, pouredOn, toldOf, goesOn};
 use capture::feed::feed;
+use capture::feed::is_ended;
 use capture::pour::pour;
-use capture::session::Phase;
 use capture::session::Session;
 use libc::STDIN_FILENO;
-use libc::STDOUT_FILENO;
 use wire::memory::distance;
 use wire::memory::part;
 
@@ -22,9 +24,13 @@ pub struct Pumped {
     pub moved: bool,
     // Whether standard output takes what is written.
     pub writes: bool,
+    // Bytes of text that have yet to be written.
+    pub written: usize,
 }
 
-pub fn fresh(session: Session) -> Pumped {
+pub fn fresh(session: Session) -> Pumped
+    ensures { λ r. ⌜ r ≡ freshPump session ⌝ }
+{
     Pumped {
         session,
         held: 0,
@@ -33,29 +39,51 @@ pub fn fresh(session: Session) -> Pumped {
         last: false,
         moved: true,
         writes: true,
+        written: 0,
     }
 }
 
-// Writes the first `n` bytes.
-pub fn put(out: &[u8], n: usize) -> bool {
-    io::write_all(STDOUT_FILENO, part(out, 0, n))
-}
-
-// Another block, where the last one is used up.
-pub fn refill(p: Pumped, block: &mut [u8]) -> Pumped {
+// Whether another block is wanted.
+fn wants(p: Pumped) -> bool
+    ensures { λ r. ⌜ r ≡ wantsOf p ⌝ }
+{
     if p.read < p.size {
-        return p;
+        return false;
     }
-    if p.last {
-        return p;
-    }
-    let size = io::read_full(STDIN_FILENO, block);
+    !p.last
+}
+
+// A block of `size` bytes came; one that is not full is the last.
+fn fill(p: Pumped, size: usize, room: usize) -> Pumped
+    ensures { λ r. ⌜ r ≡ filledOf p size room ⌝ }
+{
     Pumped {
         size,
         read: 0,
-        last: size < block.len(),
+        last: size < room,
         ..p
     }
+}
+
+// Another block of standard input, where one is wanted; nothing can say how long it is, and what it holds.
+pub fn refill(p: Pumped, block: &mut [u8]) -> Pumped
+    ensures { λ r. ⌜ Refilled p (length (now (block .entry))) r × (length (now (block .exit)) ≡ length (now (block .entry))) ⌝ }
+{
+    if !wants(p) {
+        return p;
+    }
+    let room = block.len();
+    let size = io::read_full(STDIN_FILENO, block);
+    fill(p, size, room)
+}
+
+fn is_any(a: usize, b: usize) -> bool
+    ensures { λ r. ⌜ r ≡ anyOf a b ⌝ }
+{
+    if a != 0 {
+        return true;
+    }
+    b != 0
 }
 
 // What is left of the block is fed to the capture.
@@ -66,11 +94,15 @@ pub fn feed_on(
     packet: &mut [u8],
     collecting: &mut [u8],
     out: &mut [u8],
-) -> Pumped {
+) -> Pumped
+    ensures { λ r. ⌜ (r, now (command .exit), now (packet .exit), now (collecting .exit), now (out .exit))
+        ≡ fedOn p (now (block .entry)) (now (command .entry)) (now (packet .entry)) (now (collecting .entry))
+        (now (out .entry)) ⌝ }
+{
     let left = distance(p.read, p.size);
     let rest = part(block, p.read, left);
-    let fed = feed(p.session, p.held, command, rest, packet, collecting, out);
-    let writes = put(out, fed.written);
+    let before = p.session;
+    let fed = feed(before, p.held, command, rest, packet, collecting, out);
     let session = fed.session;
     let unread = distance(fed.read, left);
     Pumped {
@@ -78,48 +110,56 @@ pub fn feed_on(
         held: fed.held,
         read: distance(unread, p.size),
         moved: is_any(fed.read, fed.written),
-        writes,
+        written: fed.written,
         ..p
     }
 }
 
-fn is_any(a: usize, b: usize) -> bool {
-    if a != 0 {
-        return true;
-    }
-    b != 0
-}
-
 // The lines of what waits.
-pub fn pour_on(p: Pumped, packet: &[u8], collecting: &mut [u8], out: &mut [u8]) -> Pumped {
-    if !p.writes {
-        return p;
-    }
-    let poured = pour(p.session, packet, collecting, out, 0);
-    let writes = put(out, poured.at);
+pub fn pour_on(p: Pumped, packet: &[u8], collecting: &mut [u8], out: &mut [u8]) -> Pumped
+    ensures { λ r. ⌜ (r, now (collecting .exit), now (out .exit))
+        ≡ pouredOn p (now (packet .entry)) (now (collecting .entry)) (now (out .entry)) ⌝ }
+{
+    let before = p.session;
+    let poured = pour(before, packet, collecting, out, 0);
     let session = poured.session;
     let moved = if p.moved { true } else { poured.at != 0 };
     Pumped {
         session,
         moved,
-        writes,
+        written: poured.at,
         ..p
     }
 }
 
-// Whether there is more to do: the capture has not ended, standard output takes what is written, and something moves or comes.
-pub fn goes_on(p: Pumped) -> bool {
+// Standard output took what was written, or did not; once it did not, it is not written to again.
+pub fn tell(p: Pumped, ok: bool) -> Pumped
+    ensures { λ r. ⌜ r ≡ toldOf p ok ⌝ }
+{
+    if !p.writes {
+        return Pumped { written: 0, ..p };
+    }
+    Pumped {
+        writes: ok,
+        written: 0,
+        ..p
+    }
+}
+
+// Whether there is more to do.
+pub fn goes_on(p: Pumped) -> bool
+    ensures { λ r. ⌜ r ≡ goesOn p ⌝ }
+{
     if !p.writes {
         return false;
     }
+    let session = p.session;
+    let phase = session.phase;
     if p.last {
         return p.moved;
     }
-    let session = p.session;
-    let phase = session.phase;
-    match phase {
-        Phase::Before => true,
-        Phase::Reading => true,
-        Phase::Ended => p.moved,
+    if is_ended(phase) {
+        return p.moved;
     }
+    true
 }

@@ -1,0 +1,2 @@
+-- The turns of the capture program.
+pub mod Pump
