@@ -1,12 +1,12 @@
-//! Links the other decoder's static library, if OTHER_DECODER_LIB names one (a path to lib*.a).
+//! Links the proved decoder's static library, if TOTALS_LIB names one (a path to lib*.a).
 
 use std::env;
 use std::path::Path;
 
 fn main() {
-    println!("cargo:rerun-if-env-changed=OTHER_DECODER_LIB");
-    println!("cargo:rustc-check-cfg=cfg(other_decoder)");
-    let Ok(library) = env::var("OTHER_DECODER_LIB") else {
+    println!("cargo:rerun-if-env-changed=TOTALS_LIB");
+    println!("cargo:rustc-check-cfg=cfg(proved_decoder)");
+    let Ok(library) = env::var("TOTALS_LIB") else {
         return;
     };
     let path = Path::new(&library);
@@ -16,5 +16,5 @@ fn main() {
     println!("cargo:rerun-if-changed={library}");
     println!("cargo:rustc-link-search=native={}", folder.display());
     println!("cargo:rustc-link-lib=static={}", name.expect("lib*.a"));
-    println!("cargo:rustc-cfg=other_decoder");
+    println!("cargo:rustc-cfg=proved_decoder");
 }

@@ -5,7 +5,6 @@ use second::fields::{be16, be32};
 use second::slots::PACKET_MEMORY;
 
 /// What a decoder found; all decoders must agree.
-#[repr(C)]
 #[derive(Clone, Copy, Debug, Default, PartialEq, Eq)]
 pub struct Totals {
     pub frames: u64,
@@ -86,32 +85,33 @@ fn drain(receiver: &mut Receiver, memories: &mut Memories, totals: &mut Totals) 
     }
 }
 
-/// The other decoder: a function of C linkage from a static library, measured in the same run.
-#[cfg(other_decoder)]
-pub fn other(capture: &[u8], memories: &mut Memories) -> Totals {
+/// The proved decoder: a function of C linkage from the static library of crate `totals`. Its packet memory is its own.
+#[cfg(proved_decoder)]
+pub fn proved(capture: &[u8], memories: &mut Memories) -> Totals {
     extern "C" {
-        /// Reads the capture as `second` does, with these memories.
-        fn other_decoder_read(
+        fn ixohuemil_totals(
             capture: *const u8,
             capture_len: usize,
-            packet_memory: *mut u8,
-            packet_memory_len: usize,
             collecting: *mut u8,
             collecting_len: usize,
-            totals: *mut Totals,
+            frames: *mut u64,
+            units: *mut u64,
+            notes: *mut u64,
+            unit_bytes: *mut u64,
         );
     }
     let mut totals = Totals::default();
-    // SAFETY: each pointer comes with its length, nothing is kept, and the slices don't overlap.
+    // SAFETY: each pointer to bytes comes with its length, nothing is kept, and no two of them overlap.
     unsafe {
-        other_decoder_read(
+        ixohuemil_totals(
             capture.as_ptr(),
             capture.len(),
-            memories.packet.as_mut_ptr(),
-            memories.packet.len(),
             memories.collecting.as_mut_ptr(),
             memories.collecting.len(),
-            &mut totals,
+            &mut totals.frames,
+            &mut totals.units,
+            &mut totals.notes,
+            &mut totals.unit_bytes,
         );
     }
     totals

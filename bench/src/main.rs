@@ -1,7 +1,7 @@
 //! Measures the decoders on three captures in memory, beside a plain copy of the same bytes.
 //!
-//! `bench [FRAMES [ROUNDS]]`. With OTHER_DECODER_LIB set at build time, the other decoder is measured
-//! in the same rounds.
+//! `bench [FRAMES [ROUNDS]]`. With TOTALS_LIB set at build time, the proved decoder is measured in
+//! the same rounds.
 
 mod captures;
 mod clock;
@@ -16,8 +16,9 @@ use decoders::{Memories, Totals};
 const WHAT: &str = "\
 Each line: gigabytes of capture (commands and slot data) per second of processor time, and the ratio
 to a plain copy of the whole capture into memory of the same length. A decoder reads the capture from
-memory to memory: start, frame, slot, next until nothing waits, show after each unit. Building
-captures, allocating memories and printing are not measured.";
+memory to memory and counts frames, units, notes and the bytes of units: the second decoder by start,
+frame, slot, next until nothing waits and show after each unit, the proved one by ixohuemil_totals.
+Building captures, allocating memories and printing are not measured.";
 
 /// The shortest of all rounds: what the machine does when nobody disturbs it.
 struct Best(Duration);
@@ -55,16 +56,16 @@ fn measure(measured: &Measured, rounds: usize) {
     let mut target = vec![1; capture.len()];
     let mut memories = Memories::new();
     let (mut copy, mut copy_slots, mut second) = (Best::new(), Best::new(), Best::new());
-    #[cfg(other_decoder)]
-    let mut other = Best::new();
+    #[cfg(proved_decoder)]
+    let mut proved = Best::new();
     let mut totals = Totals::default();
     for _ in 0..rounds {
         copy.time(|| decoders::copy(capture, &mut target));
         copy_slots.time(|| decoders::copy_slots(capture, &mut memories));
         totals = second.time(|| decoders::second(capture, &mut memories));
-        #[cfg(other_decoder)]
+        #[cfg(proved_decoder)]
         {
-            let theirs = other.time(|| decoders::other(capture, &mut memories));
+            let theirs = proved.time(|| decoders::proved(capture, &mut memories));
             assert_eq!(theirs, totals, "the decoders disagree");
         }
     }
@@ -87,11 +88,14 @@ fn measure(measured: &Measured, rounds: usize) {
     line("plain copy", &copy);
     line("copy of each slot to one place", &copy_slots);
     line("second decoder (Rust)", &second);
-    #[cfg(other_decoder)]
-    line("other decoder (static library)", &other);
-    #[cfg(not(other_decoder))]
+    #[cfg(proved_decoder)]
+    line("proved decoder", &proved);
+    #[cfg(proved_decoder)]
     println!(
-        "  {:<44} not linked (OTHER_DECODER_LIB)",
-        "other decoder (static library)"
+        "  {:<44} {:7.2}",
+        "proved decoder to second decoder",
+        second.0.as_secs_f64() / proved.0.as_secs_f64()
     );
+    #[cfg(not(proved_decoder))]
+    println!("  {:<44} not linked (TOTALS_LIB)", "proved decoder");
 }
