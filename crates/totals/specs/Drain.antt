@@ -179,7 +179,8 @@ module _ (s : Session) (p c : List ℕ) (d : Drains s (length p) (length c)) whe
   flush-event e h =
       let g = gives waiting p in
       let t = turn-event waiting (s .state .cursor) p e in
-      drain-line s p c d event (withQueue (s .state) (takenOf waiting p .queue)) (read-event (s .state) p c event (rw t refl) ∙ rw t refl) (g .line e) ∙ h
+      drain-line s p c d event (withQueue (s .state) (takenOf waiting p .queue))
+      (read-event (s .state) p c event (rw t refl) ∙ rw t refl) (g .line e) ∙ h
       ∙ rw (g .id, ← counted-event waiting p (s .tally) e)
 
   flush-none : isEvent event ≡ false → endOf (drainedOf s p c) ≡ endOf (drainedOf (flushed s p) p c)

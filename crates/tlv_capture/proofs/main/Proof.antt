@@ -94,11 +94,14 @@ write-all-requires-2 c κs = search needs
 tell-requires-2 : tie.Need-tell-requires-2 Inv-loop μ-loop
 tell-requires-2 c κs = search needs
 
--- from the turn's end back to where the block is lent to feed_on
+-- from the turn's end back to where the block was fed, and to where it was lent to feed_on
+abbrev fed : tie.After-tell2 Inv-loop μ-loop → tie.After-feed-on Inv-loop μ-loop
+fed c =
+    let t = c .before .before .before .before .before .before .before .before .before .before in
+    t .before .before .before .before .before .before .before .before
+
 abbrev lent : tie.After-tell2 Inv-loop μ-loop → tie.After-block3 Inv-loop μ-loop
-lent c =
-    let f = c .before .before .before .before .before .before .before .before .before .before .before .before .before .before .before .before .before .before in
-    f .before .before .before .before .before
+lent c = fed c .before .before .before .before .before
 
 sub-turns : tie.Need-sub-turns Inv-loop μ-loop
 sub-turns c = omega (arith, lent c .before .before .before .before .before .before .loop-test .taken)
@@ -108,7 +111,7 @@ loop-less c = omega (arith, lent c .before .before .before .before .before .befo
 
 loop-again : tie.Need-loop-again Inv-loop μ-loop
 loop-again c =
-    let f = c .before .before .before .before .before .before .before .before .before .before .before .before .before .before .before .before .before .before in
+    let f = fed c in
     let block = slice-aggregate-feed-on (lent c) in
     let packet = slice-aggregate-pour-on (c .before .before .before .before .before .before .before .before .before) in
     let command = slice-aggregate-feed-on-2 (f .before .before .before .before) ∙ sym (f .feed-on .kept .1 .1 .0) in
