@@ -43,7 +43,7 @@ fn cursor_from(note: u8, packet: usize, top: u16, len: usize) -> Cursor
 }
 
 // The packets from the top pointer are read; nothing is held until their tail is.
-fn read_from(note: u8, packet: usize, top: u16, len: usize) -> Intake
+pub(crate) fn read_from(note: u8, packet: usize, top: u16, len: usize) -> Intake
     requires { ⌜ len ≤ 5049 ⌝ }
     ensures { λ r. ⌜ r ≡ readingFrom note packet top len ⌝ }
 {
@@ -57,7 +57,7 @@ fn read_from(note: u8, packet: usize, top: u16, len: usize) -> Intake
 }
 
 // An unsound slot: note 41, and searching.
-fn mark_unsound() -> Intake
+pub(crate) fn mark_unsound() -> Intake
     ensures { λ r. ⌜ r ≡ record { held = searching; cursor = noted 41 } ⌝ }
 {
     let held = Held {
@@ -76,7 +76,7 @@ fn mark_unsound() -> Intake
 }
 
 // How many bytes are held; none where they lie outside packet memory.
-fn held_len(held: Held, packet: &[u8]) -> usize
+pub(crate) fn held_len(held: Held, packet: &[u8]) -> usize
     ensures { λ r. ⌜ r ≡ heldLen held (now (packet .entry)) ⌝ }
 {
     let s = wire::memory::part(packet, held.start, held.len);
@@ -113,7 +113,7 @@ fn resume(held: Held, packet: &[u8], bytes: &[u8], t: Pointers) -> Continuation
 }
 
 // The held packet ends in the slot; the packets from the top pointer follow it.
-fn end_packet(n: usize, end: usize, top: u16, len: usize) -> Intake
+pub(crate) fn end_packet(n: usize, end: usize, top: u16, len: usize) -> Intake
     requires { ⌜ (n + end < 18446744073709551616) × (len ≤ 5049) ⌝ }
     ensures { λ r. ⌜ r ≡ resumedAs (Continuation.Ends end) n top len ⌝ }
 {
@@ -128,7 +128,7 @@ fn end_packet(n: usize, end: usize, top: u16, len: usize) -> Intake
 }
 
 // The held packet goes on past the slot.
-fn extend_packet(n: usize, len: usize) -> Intake
+pub(crate) fn extend_packet(n: usize, len: usize) -> Intake
     requires { ⌜ n + len < 18446744073709551616 ⌝ }
     ensures { λ r. ⌜ r ≡ record { held = holding 0 (n + len); cursor = noted 0 } ⌝ }
 {

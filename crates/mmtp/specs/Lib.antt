@@ -3,9 +3,11 @@ pub mod Cases
 pub mod Flow
 pub mod Header
 pub mod Watch
+pub mod Table
 pub mod Take
 pub mod Unit
 pub mod Payload
 pub mod PayloadSpecimens
 pub mod Packet
+pub mod Plain
 pub mod Specimens

@@ -3,6 +3,8 @@ pub mod flow;
 pub mod header;
 pub mod packet;
 pub mod payload;
+pub mod plain;
 pub mod reader;
+pub mod table;
 pub mod unit;
 pub mod watch;

@@ -1,10 +1,10 @@
 -- Joining: steps (a), (b) and (c) for one packet of a watched packet_id.
 use Prim.Native.Nat.{ℕ, _+_, _<_, _≤_}
 use mathlib.Core.Path.{_≡_, refl}
-use mathlib.Core.Bool.{Bool, true, false, cond, _&&_}
+use mathlib.Core.Bool.{Bool, true, false, cond, _&&_, and-eq-true-iff}
 use mathlib.Core.List.{List, [], _∷_, _++_}
-use lib.Dec.{eqb, ltb}
-use borrow.Author.Tests.{lt-ltb, le-ltb}
+use lib.Dec.{eqb, ltb, leb}
+use borrow.Author.Tests.{lt-ltb, le-ltb, leb-true}
 use Rattle.mmtp.specs.declared.header.Psn.{Psn}
 use Rattle.mmtp.specs.declared.payload.Indicator.{Indicator}
 use Rattle.mmtp.specs.declared.payload.Indicator.the-variants.{Whole, First, Middle, Last}
@@ -18,7 +18,7 @@ use Rattle.reassembly.specs.declared.join.Action.the-variants.{Nothing, 
 use Rattle.reassembly.specs.declared.join.Joined.{Joined}
 use Rattle.reassembly.specs.declared.join.HeardWhole.{HeardWhole}
 use Rattle.reassembly.specs.Unit.{agrees}
-use Rattle.reassembly.specs.Channel.{gap}
+use Rattle.reassembly.specs.Channel.{nextPsn, heard, gap}
 
 abbrev pub inPhase : Channel → Phase → Channel
 inPhase ch p = record { phase = p; last = ch .last; current = ch .current }
@@ -101,6 +101,18 @@ followedIn Open ch p limit last = extended ch p limit last
 unfoldable pub followed : Channel → Piece → ℕ → Bool → Joined
 followed ch p limit last = followedIn (ch .phase) ch p limit last
 
+abbrev pub isOpen : Phase → Bool
+isOpen Unheard = false
+isOpen Waiting = false
+isOpen Idle = false
+isOpen Open = true
+
+pub open-phase : (p : Phase) → isOpen p ≡ true → p ≡ Open
+open-phase Unheard e = cc
+open-phase Waiting e = cc
+open-phase Idle e = cc
+open-phase Open e = refl
+
 -- (c)
 abbrev pub actedBy : Indicator → Channel → Piece → ℕ → Joined
 actedBy Whole ch p limit = given ch (interrupted (ch .phase))
@@ -147,6 +159,33 @@ joined-whole ch p limit e = go (gap ch (p .unit .psn)) refl
         joinOf ch p limit ≡ record { channel = h .channel; note = h .note; over = false; action = GiveWhole }
     go true g = rw (e, g)
     go false g = rw (e, g)
+
+-- FI 10 that simply goes on: a unit is open, no packet is missing, it agrees with a counter one lower, and R holds
+unfoldable pub followsOn : Channel → Piece → ℕ → Bool
+followsOn ch p limit =
+    eqb (p .unit .psn .0) (nextPsn (ch .last) .0)
+    && (isOpen (ch .phase)
+    && (agrees (ch .current .unit) (p .unit)
+    && (counterFollows (ch .current .counter) (p .counter) && leb (ch .current .len + p .len) limit)))
+
+-- that is its step
+module _ (ch : Channel) (p : Piece) (limit : ℕ) where
+  pub joined-on : followsOn ch p limit ≡ true → p .indicator ≡ Middle
+      → joinOf ch p limit
+      ≡ record {
+        channel = record { phase = Open; last = p .unit .psn; current = longer ch p };
+        note = 0;
+        over = false;
+        action = Store (ch .current .len);
+      }
+  unfolding followsOn joinOf acted followed gap heard grown extended
+  joined-on h i =
+      let a = and-eq-true-iff (eqb (p .unit .psn .0) (nextPsn (ch .last) .0)) _ .0 h in
+      let b = and-eq-true-iff (isOpen (ch .phase)) _ .0 (a .1) in
+      let d = and-eq-true-iff (agrees (ch .current .unit) (p .unit)) _ .0 (b .1) in
+      let e = and-eq-true-iff (counterFollows (ch .current .counter) (p .counter)) _ .0 (d .1) in
+      let o = open-phase (ch .phase) (b .0) in
+      rw (o, a .0, i) (extended-on (recorded ch p) p limit false (d .0) (e .0) (leb-true _ _ (e .1)))
 
 -- the notes of a step, in order
 unfoldable pub notesOf : Joined → List ℕ

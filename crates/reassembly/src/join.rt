@@ -114,7 +114,7 @@ fn begin(ch: Channel, p: Piece, limit: usize, note: u8) -> Joined
 }
 
 // Whether a piece's counter is one lower than the one before.
-fn counter_follows(before: u8, counter: u8) -> bool
+pub fn counter_follows(before: u8, counter: u8) -> bool
     ensures { λ r. ⌜ r ≡ counterFollows before counter ⌝ }
 {
     if before == 0 {
