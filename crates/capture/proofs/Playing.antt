@@ -9,7 +9,7 @@ use lib.ListN.{length, take, drop}
 use lib.Seq.{take-paste, take-length, length-take-le}
 use lib.Dec.{eqb}
 use Rattle.wire.specs.Memory.{pasted}
-use Rattle.capture.specs.Text.{wrote}
+use Rattle.lines.specs.Text.{wrote}
 use Rattle.capture.specs.Session.{busy}
 use Rattle.capture.specs.Command.{sizeOf, whole, size-none}
 use Rattle.capture.specs.Capture.{lastLine, textOf, captureOf}

@@ -12,7 +12,7 @@ use Rattle.delivery.specs.Choice.{by-test}
 use Rattle.receiver.specs.Next.{nextOf}
 use Rattle.capture.specs.declared.session.Session.{Session}
 use Rattle.capture.specs.Session.{busy, withState, withTally}
-use Rattle.capture.specs.Text.{wrote}
+use Rattle.lines.specs.Text.{wrote}
 use Rattle.capture.specs.Waits.{waits, isLine, next-falls}
 use Rattle.capture.specs.Capture.{eventLine, tallied}
 use Rattle.capture.specs.Steps.{Poured, pourBy, roomy, pouredBy, pouredOf, pour-step}

@@ -19,7 +19,7 @@ use Rattle.capture.specs.declared.session.Phase.{Phase}
 use Rattle.capture.specs.declared.session.Phase.the-variants.{Before, Reading, Ended}
 use Rattle.capture.specs.declared.session.Session.{Session}
 use Rattle.capture.specs.declared.session.Tally.{Tally}
-use Rattle.capture.specs.Line.{unitLine, noteLine, refusedLine, endLine}
+use Rattle.lines.specs.Line.{unitLine, noteLine, refusedLine, endLine}
 use Rattle.capture.specs.Command.{letterOf, sizeOf, whole, configOf}
 use Rattle.capture.specs.Session.{isEnded, busy, withState, inPhase, withTally, inFrame, inSlot, withUnit, withNote}
 use Rattle.capture.specs.Session.{freshSession}

@@ -4,7 +4,7 @@ use mathlib.Core.Path.{_≡_}
 use mathlib.Core.List.{List, _++_}
 use lib.ListN.{length, drop}
 use Rattle.capture.specs.declared.session.Session.{Session}
-use Rattle.capture.specs.Text.{wrote}
+use Rattle.lines.specs.Text.{wrote}
 use Rattle.capture.specs.Command.{sizeOf}
 use Rattle.capture.specs.Capture.{drainedOf, behind, textOf}
 use Rattle.capture.specs.Steps.{Poured, pouredOf}

@@ -15,8 +15,8 @@ use Rattle.receiver.specs.Start.{before, twiceBelow, twice, freshState, refusal
 use Rattle.receiver.specs.Frame.{frameBusy, frameOf, lossOf, lostFrameOf}
 use Rattle.receiver.specs.Slot.{shortBy, refusalOf, slotOf, lostSlotOf}
 use Rattle.receiver.specs.Next.{nextOf}
-use Rattle.capture.specs.Decimal.{digits, decimal}
-use Rattle.capture.specs.Line.{field, refusedLine, endLine}
+use Rattle.lines.specs.Decimal.{digits, decimal}
+use Rattle.lines.specs.Line.{field, refusedLine, endLine}
 use Rattle.capture.specs.Command.{letterOf, slotSize, sizeOf, whole, idsOf, configOf}
 use Rattle.capture.specs.Session.{freshSession}
 use Rattle.capture.specs.Waits.{queueWaits, cursorWaits, waitsBy}

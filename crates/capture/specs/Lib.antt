@@ -1,7 +1,4 @@
 -- The meaning of a capture, from its bytes to its lines.
-pub mod Text
-pub mod Decimal
-pub mod Line
 pub mod Command
 pub mod Session
 pub mod Waits

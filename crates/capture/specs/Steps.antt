@@ -1,6 +1,6 @@
 -- What the functions of a capture answer and leave: the definition's lines, written to a memory while there is room.
 use Prim.Native.Nat.{ℕ, zero, suc, _+_, _<_}
-use mathlib.Core.Path.{_≡_, refl, sym, _∙_}
+use mathlib.Core.Path.{_≡_, sym, _∙_}
 use mathlib.Core.Bool.{Bool, true, false, cond, _&&_, and-eq-true-iff}
 use mathlib.Core.List.{List}
 use native.Mathlib.Omega.{arith}
@@ -8,25 +8,20 @@ use borrow.Author.Tests.{eq-eqb, ne-eqb}
 use lib.ListN.{length, getD}
 use lib.Dec.{leb}
 use Rattle.delivery.specs.declared.event.Event.{Event}
-use Rattle.delivery.specs.declared.cursor.Found.the-variants.{Event as AnEvent, Done}
-use Rattle.delivery.specs.declared.cursor.Turn.{Turn}
-use Rattle.delivery.specs.Cursor.{turnOf}
 use Rattle.receiver.specs.declared.answer.Called.{Called}
-use Rattle.receiver.specs.declared.state.State.{State}
 use Rattle.receiver.specs.Slot.{shortBy}
-use Rattle.receiver.specs.State.{withOwed}
-use Rattle.receiver.specs.Next.{Out, past, readAll, nextOf, next-short, next-reads}
-use Rattle.receiver.specs.ReadOn.{read-event, read-done}
+use Rattle.receiver.specs.Next.{Out, readAll, nextOf, next-short, next-reads}
+use Rattle.receiver.specs.ReadOn.{next-calm}
 use Rattle.capture.specs.declared.command.Letter.{Letter}
 use Rattle.capture.specs.declared.session.Phase.the-variants.{Ended}
 use Rattle.capture.specs.declared.session.Progress.{Progress}
 use Rattle.capture.specs.declared.session.Session.{Session}
 use Rattle.capture.specs.declared.session.Tally.{Tally}
-use Rattle.capture.specs.Text.{wrote, wrote-none}
-use Rattle.capture.specs.Line.{refusedLine}
+use Rattle.lines.specs.Text.{wrote, wrote-none}
+use Rattle.lines.specs.Line.{refusedLine}
 use Rattle.capture.specs.Command.{letterOf}
 use Rattle.capture.specs.Session.{isReading, busy, inPhase, withState, withTally}
-use Rattle.capture.specs.Waits.{waits, isLine, next-falls}
+use Rattle.capture.specs.Waits.{waits, isLine, next-falls, next-owes}
 use Rattle.capture.specs.Bounded.{same-on, enough}
 use Rattle.capture.specs.Capture.{fits, callOf, afterCall, doneOf, eventLine, tallied, closed, lastLine}
 
@@ -152,46 +147,38 @@ module _ (s : Session) (p c out : List ℕ) (at : ℕ) where
     unfolding eventLine tallied closed
     pour-short r e n o w = pour-next s p c out at (rw (h, r)) _ (next-short (s .state) p c e) ∙ rw (← w)
 
--- one turn of reading on at a time
-module _ (s : Session) (p c out : List ℕ) (at : ℕ) (d : Drains s (length p) (length c))
-    (room : roomy (length out) at ≡ true) where
-  abbrev turned : Turn
-  turned = turnOf (s .state .queue) (s .state .cursor) p
+-- one event at a time: `o` is what reading on comes to
+module _ (s : Session) (p c : List ℕ) (d : Drains s (length p) (length c)) (o : Out) (e : o ≡ readAll (s .state) p c) where
+  -- the session after it
+  abbrev stepped : Session
+  stepped = withTally (withState s (o .0 .state)) (tallied (s .tally) (o .0 .event))
 
-  drains-on : (busy s && roomy (length out) at) ≡ true
-  drains-on = rw (d .owed, room)
+  next-read : nextOf (s .state) p c ≡ o
+  next-read =
+      next-reads (s .state) p c (d .long) (and-eq-true-iff (isReading (s .phase)) (s .state .owed) .0 (d .owed) .1) ∙ sym e
 
-  pour-read : (o : Out) → readAll (s .state) p c ≡ o
-      → pouredOf s p c out at ≡ pourBy (o .0 .event) (withState s (o .0 .state)) (o .1) out at (λ t d o a. pouredOf t p d o a)
-  pour-read o e =
-      let w = and-eq-true-iff (isReading (s .phase)) (s .state .owed) .0 (d .owed) .1 in
-      pour-next s p c out at drains-on o (next-reads (s .state) p c (d .long) w ∙ e)
+  module _ (i : isLine (o .0 .event) ≡ true) where
+    pub drains-on : Drains stepped (length p) (length (o .1))
+    drains-on =
+        let n = rw (← next-read) at i in
+        let w = rw next-read at (next-owes p (s .state) c n) in
+        let k = rw next-read at (next-calm (s .state) p c) in
+        record { owed = rw w (d .owed); long = rw (k .config, k .size) (d .long) }
 
-  module _ (e : Event) (h : turned .found ≡ AnEvent e) where
-    abbrev stepped : Session
-    stepped = withTally (withState s (past (s .state) turned)) (tallied (s .tally) e)
+    pub drains-falls : waits (o .0 .state) p < waits (s .state) p
+    drains-falls = rw next-read at (next-falls p (s .state) c (rw (← next-read) at i))
 
-    pour-event : pouredOf s p c out at ≡ pourBy e (withState s (past (s .state) turned)) c out at (λ t d o a. pouredOf t p d o a)
-    pour-event = pour-read _ (read-event (s .state) p c e h)
+  module _ (out : List ℕ) (at : ℕ) (room : roomy (length out) at ≡ true) (r : ℕ) (w : List ℕ)
+      (l : (r, w) ≡ wrote out at (eventLine (s .tally) (o .0 .event))) where
+    pour-event : pouredOf s p c out at
+        ≡ pourBy (o .0 .event) (withState s (o .0 .state)) (o .1) out at (λ t d o a. pouredOf t p d o a)
+    pour-event = pour-next s p c out at (rw (d .owed, room)) o next-read
 
-    module _ (r : ℕ) (o : List ℕ) (w : (r, o) ≡ wrote out at (eventLine (s .tally) e)) where
-      pub pour-line : isLine e ≡ true → pouredOf s p c out at ≡ pouredOf stepped p c o r
-      pour-line i = pour-event ∙ rw (i, ← w)
+    pub pour-line : isLine (o .0 .event) ≡ true → pouredOf s p c out at ≡ pouredOf stepped p (o .1) w r
+    pour-line i = pour-event ∙ rw (i, ← l)
 
-      pub pour-last : isLine e ≡ false → pouredOf s p c out at ≡ pouredAt (closed stepped e) c (r, o)
-      pour-last i = pour-event ∙ rw (i, ← w)
-
-  pub pour-done : turned .found ≡ Done
-      → pouredOf s p c out at ≡ pouredAt (withState s (withOwed (past (s .state) turned) false)) c (at, out)
-  unfolding eventLine tallied closed
-  pour-done h = pour-read _ (read-done (s .state) p c h) ∙ rw (wrote-none out at)
-
--- a turn without an event: the state and collecting memory that it leaves come to the same
-pub pour-on : (s : Session) (p c out : List ℕ) (at : ℕ) (st : State) (c' : List ℕ) → Drains s (length p) (length c)
-    → Drains (withState s st) (length p) (length c') → roomy (length out) at ≡ true → readAll (s .state) p c ≡ readAll st p c'
-    → pouredOf s p c out at ≡ pouredOf (withState s st) p c' out at
-pour-on s p c out at st c' d d' room e =
-    pour-read s p c out at d room _ e ∙ sym (pour-read (withState s st) p c' out at d' room _ refl)
+    pub pour-last : isLine (o .0 .event) ≡ false → pouredOf s p c out at ≡ pouredAt (closed stepped (o .0 .event)) (o .1) (r, w)
+    pour-last i = pour-event ∙ rw (i, ← l)
 
 module _ (t : Tally) (out : List ℕ) (at : ℕ) where
   pub finish-full : roomy (length out) at ≡ false → finishedOf t out at ≡ (at, out)

@@ -1,6 +1,6 @@
 -- How much next still gives at most. It falls with every event, so that calling next until nothing waits ends.
 use Prim.Native.Nat.{ℕ, zero, suc, _+_, _-_, _*_, _<_, _≤_}
-use mathlib.Core.Path.{_≡_, refl, sym}
+use mathlib.Core.Path.{_≡_, refl, sym, _∙_}
 use mathlib.Core.Bool.{Bool, true, false, cond, true≢false}
 use mathlib.Core.List.{List}
 use native.Mathlib.Nat.{mul-le-mul-right, suc-mul, lt-trans}
@@ -222,23 +222,25 @@ isLine (Note n id) = true
 isLine (Unit g) = true
 isLine (Refused n) = false
 
+-- after a line less waits, and next is owed as before
 module _ (p : List ℕ) where
   abbrev Ends : State → Out → Type 0
-  Ends st o = isLine (o .0 .event) ≡ true → waits (o .0 .state) p < waits st p
+  Ends st o = isLine (o .0 .event) ≡ true → (waits (o .0 .state) p < waits st p) × (o .0 .state .owed ≡ st .owed)
 
   onwards-falls : (st : State) (c : List ℕ) (f : State → List ℕ → Out) (x : Found) → turnOf (st .queue) (st .cursor) p .found ≡ x
       → ((s : State) (d : List ℕ) → Ends s (f s d)) → Ends st (onwards x (past st (turnOf (st .queue) (st .cursor) p)) p c f)
-  onwards-falls st c f (Event e) h k = λ g. turn-falls (st .queue) (st .cursor) p .0 (rw h refl)
+  onwards-falls st c f (Event e) h k = λ g. (turn-falls (st .queue) (st .cursor) p .0 (rw h refl), refl)
   onwards-falls st c f (Packet start end) h k =
       let s = past st (turnOf (st .queue) (st .cursor) p) in
       let r = packetOf s p c start end in
       let t = turn-falls (st .queue) (st .cursor) p .1 (rw h refl) (r .0 .queue) in
-      let l : waits (r .0) p < waits st p = rw (packet-kept s p c start end .cursor) t in
-      λ g. lt-trans (k (r .0) (r .1) g) l
+      let q = packet-kept s p c start end in
+      let l : waits (r .0) p < waits st p = rw (q .cursor) t in
+      λ g. let i = k (r .0) (r .1) g in (lt-trans (i .0) l, i .1 ∙ q .owed)
   onwards-falls st c f (Tail start len) h k =
       let s = past st (turnOf (st .queue) (st .cursor) p) in
-      λ g. lt-trans (k (withSlot s (holding start len) (s .cursor)) c g)
-      (turn-falls (st .queue) (st .cursor) p .1 (rw h refl) (s .queue))
+      let l = turn-falls (st .queue) (st .cursor) p .1 (rw h refl) (s .queue) in
+      λ g. let i = k (withSlot s (holding start len) (s .cursor)) c g in (lt-trans (i .0) l, i .1)
   onwards-falls st c f Done h k = λ g. absurd (true≢false (sym g))
 
   read-falls : (f : ℕ) (st : State) (c : List ℕ) → Ends st (readOn f st p c)
@@ -246,12 +248,17 @@ module _ (p : List ℕ) where
   read-falls zero st c = λ g. absurd (true≢false (sym g))
   read-falls (suc f) st c = onwards-falls st c (λ s d. readOn f s p d) _ refl (λ s d. read-falls f s d)
 
-  -- less waits after each line
-  pub next-falls : (st : State) (c : List ℕ) → isLine (nextOf st p c .0 .event) ≡ true
-      → waits (nextOf st p c .0 .state) p < waits st p
-  next-falls st c = go (shortBy (st .config) (length p) (length c)) (st .owed) refl refl
+  next-ends : (st : State) (c : List ℕ) → Ends st (nextOf st p c)
+  next-ends st c = go (shortBy (st .config) (length p) (length c)) (st .owed) refl refl
     where
       go : (b o : Bool) → shortBy (st .config) (length p) (length c) ≡ b → st .owed ≡ o → Ends st (nextOf st p c)
       go true o e q = rw (next-short st p c e) (λ g. absurd (true≢false (sym g)))
       go false false e q = rw (next-idle st p c e q) (λ g. absurd (true≢false (sym g)))
       go false true e q = rw (next-reads st p c e q) (unfold readAll in read-falls (suc (left (st .cursor))) st c)
+
+  module _ (st : State) (c : List ℕ) (g : isLine (nextOf st p c .0 .event) ≡ true) where
+    pub next-falls : waits (nextOf st p c .0 .state) p < waits st p
+    next-falls = next-ends st c g .0
+
+    pub next-owes : nextOf st p c .0 .state .owed ≡ st .owed
+    next-owes = next-ends st c g .1

@@ -31,8 +31,8 @@ use Rattle.receiver.specs.Start.{before, twiceBelow, twice, freshState, refusal
 use Rattle.receiver.specs.Frame.{frameBusy, frameOf, lossOf, lostFrameOf}
 use Rattle.receiver.specs.Slot.{shortBy, refusalOf, counted, wrongLength, slotOf, lostSlotOf}
 use Rattle.receiver.specs.Next.{packetOf, readOn, readAll, nextOf}
-use Rattle.capture.specs.Decimal.{digits, decimal}
-use Rattle.capture.specs.Line.{field, placeText, carriedText, unitLine, idText, noteLine, refusedLine, endLine}
+use Rattle.lines.specs.Decimal.{digits, decimal}
+use Rattle.lines.specs.Line.{field, placeText, carriedText, unitLine, idText, noteLine, refusedLine, endLine}
 use Rattle.capture.specs.Command.{letterOf, slotSize, sizeOf, whole, idsOf, configOf}
 use Rattle.capture.specs.Session.{freshSession}
 use Rattle.capture.specs.Waits.{queueWaits, cursorWaits, waitsBy}

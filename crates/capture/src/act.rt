@@ -8,11 +8,12 @@ ghost use Rattle.capture.specs.Steps.{actedOf};
 use crate::command::Letter;
 use crate::command::config;
 use crate::command::letter_of;
-use crate::line::put_refused;
 use crate::session::Phase;
 use crate::session::Progress;
 use crate::session::Session;
 use crate::session::Tally;
+use crate::session::end;
+use lines::line::put_refused;
 use receiver::answer::Called;
 use receiver::state::State;
 
@@ -121,11 +122,8 @@ pub fn act(
     let letter = letter_of(b[0]);
     let phase = session.phase;
     if !is_fit(phase, letter) {
-        let ended = Session {
-            phase: Phase::Ended,
-            ..session
-        };
-        return Progress { session: ended, at };
+        let session = end(session);
+        return Progress { session, at };
     }
     let st = session.state;
     let called = call(letter, st, packet, collecting, b);
@@ -135,10 +133,7 @@ pub fn act(
         let session = after_call(letter, next);
         return Progress { session, at };
     }
-    let end = put_refused(out, at, called.refusal);
-    let session = Session {
-        phase: Phase::Ended,
-        ..next
-    };
-    Progress { session, at: end }
+    let at = put_refused(out, at, called.refusal);
+    let session = end(next);
+    Progress { session, at }
 }

@@ -58,7 +58,9 @@ pub fn size(b: &[u8]) -> usize
 }
 
 // The sixteen ids of C.
-fn ids(b: &[u8]) -> [u16; 16]
+type Ids = [u16; 16];
+
+fn ids(b: &[u8]) -> Ids
     requires { ⌜ 42 ≤ length (now b) ⌝ }
     ensures { λ r. ⌜ r ≡ idsOf (now (b .entry)) ⌝ }
 {

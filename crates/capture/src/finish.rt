@@ -2,11 +2,11 @@
 ghost use mathlib.Core.Path.{_≡_};
 ghost use Rattle.capture.specs.Session.{freshSession};
 ghost use Rattle.capture.specs.Steps.{finishedOf};
-use crate::line::put_end;
 use crate::pour::has_room;
 use crate::session::Phase;
 use crate::session::Session;
 use crate::session::Tally;
+use lines::line::put_end;
 use mmtp::watch::Watch;
 use reassembly::config::Config;
 

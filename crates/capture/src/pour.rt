@@ -1,27 +1,23 @@
 // Lines of the events that next gives, while there is room.
 ghost use mathlib.Core.Path.{_≡_};
-ghost use Prim.Native.Nat.{_+_, _*_, _≤_};
-ghost use mathlib.Core.Bool.{true};
+ghost use Prim.Native.Nat.{_+_, _≤_};
 ghost use lib.ListN.{length};
-ghost use Rattle.capture.specs.Text.{Put};
+ghost use Rattle.lines.specs.Text.{Put};
 ghost use Rattle.capture.specs.Waits.{isLine};
-ghost use Rattle.capture.specs.Session.{isReading, busy, withUnit, withState, withTally};
+ghost use Rattle.capture.specs.Session.{busy, withUnit, withState, withTally};
 ghost use Rattle.capture.specs.Capture.{eventLine, tallied, closed};
 ghost use Rattle.capture.specs.Steps.{roomy, Drains, pouredOf};
-use crate::line::LONGEST;
-use crate::line::put_note;
-use crate::line::put_refused;
-use crate::line::put_unit;
 use crate::session::Phase;
 use crate::session::Progress;
 use crate::session::Session;
 use crate::session::Tally;
-use delivery::cursor::Found;
-use delivery::cursor::find;
+use crate::session::end;
 use delivery::event::Event;
-use delivery::packet::arrive;
-use delivery::packet::receive;
-use receiver::next::hold;
+use lines::line::LONGEST;
+use lines::line::put_note;
+use lines::line::put_refused;
+use lines::line::put_unit;
+use receiver::next::read_on;
 use receiver::state::State;
 
 // Whether there is room for a longest line from `at` on.
@@ -47,7 +43,8 @@ pub fn is_busy(session: Session) -> bool
     }
 }
 
-fn is_line(event: Event) -> bool
+// Whether it is a note or a unit.
+pub fn is_line(event: Event) -> bool
     ensures { λ r. ⌜ r ≡ isLine event ⌝ }
 {
     match event {
@@ -110,10 +107,7 @@ pub fn close(session: Session, event: Event) -> Session
         }
         Event::Note(_, _) => session,
         Event::Unit(_) => session,
-        Event::Refused(_) => Session {
-            phase: Phase::Ended,
-            ..session
-        },
+        Event::Refused(_) => end(session),
     }
 }
 
@@ -139,7 +133,7 @@ fn stop_after(session: Session, state: State, tally: Tally, at: usize, event: Ev
     Progress { session, at }
 }
 
-// Reads on by `find` as next does, but keeps the state in its place over all events.
+// Reads on from event to event. What `next` tests first, that it is owed and has room, holds throughout: so `read_on`, not `next`.
 fn drain(
     session: Session,
     packet: &[u8],
@@ -152,44 +146,16 @@ fn drain(
         ≡ pouredOf session (now (packet .entry)) (now (collecting .entry)) (now (out .entry)) at ⌝ }
 {
     let mut next = session.state;
-    let config = next.config;
     let mut tally = session.tally;
     let mut place = at;
     while has_room(out.len(), place) {
-        let queue = next.queue;
-        let cursor = next.cursor;
-        let turn = find(queue, cursor, packet);
-        let rest = turn.queue;
-        next.queue = rest;
-        let past = turn.cursor;
-        next.cursor = past;
-        let found = turn.found;
-        match found {
-            Found::Event(event) => {
-                place = put_event(out, place, tally, event);
-                tally = count(tally, event);
-                if !is_line(event) {
-                    return stop_after(session, next, tally, place, event);
-                }
-            }
-            Found::Packet(start, end) => {
-                let arrived = arrive(config, packet, start, end);
-                let k = delivery::packet::place(arrived);
-                let channel = next.channels[k];
-                let j = receive(arrived, channel, rest, packet, collecting, config.limit);
-                let queue = j.queue;
-                next.queue = queue;
-                let after = j.channel;
-                next.channels[k] = after;
-            }
-            Found::Tail(start, len) => {
-                let held = hold(start, len);
-                next.held = held;
-            }
-            Found::Done => {
-                next.owed = false;
-                return stop(session, next, tally, place);
-            }
+        let answer = read_on(next, packet, collecting);
+        next = answer.state;
+        let event = answer.event;
+        place = put_event(out, place, tally, event);
+        tally = count(tally, event);
+        if !is_line(event) {
+            return stop_after(session, next, tally, place, event);
         }
     }
     stop(session, next, tally, place)
@@ -215,15 +181,9 @@ pub fn pour(
     let state = session.state;
     let config = state.config;
     if receiver::slot::is_short(config, packet.len(), collecting.len()) {
-        let end = put_refused(out, at, 22);
-        let ended = Session {
-            phase: Phase::Ended,
-            ..session
-        };
-        return Progress {
-            session: ended,
-            at: end,
-        };
+        let at = put_refused(out, at, 22);
+        let session = end(session);
+        return Progress { session, at };
     }
     drain(session, packet, collecting, out, at)
 }

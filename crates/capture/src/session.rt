@@ -1,4 +1,6 @@
 // What a capture's commands have come to.
+ghost use mathlib.Core.Path.{_≡_};
+ghost use Rattle.capture.specs.Session.{inPhase};
 use receiver::state::State;
 
 pub enum Phase {
@@ -30,4 +32,14 @@ pub struct Session {
 pub struct Progress {
     pub session: Session,
     pub at: usize,
+}
+
+// The session ends: nothing is read any more.
+pub fn end(session: Session) -> Session
+    ensures { λ r. ⌜ r ≡ inPhase session Phase.Ended ⌝ }
+{
+    Session {
+        phase: Phase::Ended,
+        ..session
+    }
 }

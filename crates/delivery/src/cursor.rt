@@ -34,7 +34,7 @@ pub struct Turn {
 }
 
 // Whether the total of the packet at `at` is known and above what is kept.
-fn is_too_long(s: &[u8], at: usize) -> bool
+pub fn is_too_long(s: &[u8], at: usize) -> bool
     ensures { λ r. ⌜ r ≡ tooLong (drop at (now (s .entry))) ⌝ }
 {
     if s.len() < at {

@@ -6,7 +6,19 @@ use Rattle.reassembly.specs.declared.unit.Unit.{Unit}
 use Rattle.packer.specs.declared.pack.Packed.{Packed}
 use Rattle.cutter.specs.declared.slot.CutSlot.{CutSlot}
 
--- packet_id, kind, first psn, MPU number; movie fragment, sample, offset, priority, dependency, item
+-- movie fragment, sample, offset, priority, dependency, item
+abbrev pub fieldsOf : ℕ → ℕ → ℕ → ℕ → ℕ → ℕ → Fields
+fieldsOf fragment sample offset priority dependency item =
+    record {
+      «movie_fragment» = fragment;
+      sample = sample;
+      offset = offset;
+      priority = priority;
+      dependency = dependency;
+      item = item;
+    }
+
+-- packet_id, kind, first psn, MPU number, and the fields
 abbrev pub unitOf : ℕ → ℕ → ℕ → ℕ → ℕ → ℕ → ℕ → ℕ → ℕ → ℕ → Unit
 unitOf id kind psn mpu fragment sample offset priority dependency item =
     record {
@@ -14,15 +26,7 @@ unitOf id kind psn mpu fragment sample offset priority dependency item =
       kind = kind;
       psn = record { 0 = psn };
       mpu = mpu;
-      fields =
-          record {
-            «movie_fragment» = fragment;
-            sample = sample;
-            offset = offset;
-            priority = priority;
-            dependency = dependency;
-            item = item;
-          };
+      fields = fieldsOf fragment sample offset priority dependency item;
     }
 
 abbrev pub packedAs : ℕ → ℕ → Packed

@@ -1,11 +1,32 @@
 // The packer's call.
 ghost use mathlib.Core.Path.{_≡_};
 ghost use Rattle.packer.specs.Packer.{packOf};
-ghost use Rattle.linked.specs.Answers.{unitOf, packedAs};
+ghost use Rattle.linked.specs.Answers.{fieldsOf, unitOf, packedAs};
 use mmtp::header::Psn;
 use mmtp::unit::Fields;
 use packer::pack::pack;
 use reassembly::unit::Unit;
+
+// What a unit's kind adds, from plain numbers.
+fn fields_of(
+    movie_fragment: u32,
+    sample: u32,
+    offset: u32,
+    priority: u8,
+    dependency: u8,
+    item: u32,
+) -> Fields
+    ensures { λ r. ⌜ r ≡ fieldsOf «movie_fragment» sample offset priority dependency item ⌝ }
+{
+    Fields {
+        movie_fragment,
+        sample,
+        offset,
+        priority,
+        dependency,
+        item,
+    }
+}
 
 // Packs a unit of these bytes in pieces of at most `m`, the unit's psn in its first packet; answers 70 to 74, or 0 with the bytes
 // written in `len`.
@@ -33,14 +54,7 @@ pub extern "C" fn ixohuemil_pack(
         (now (bytes .entry)) (now (output .entry)) ⌝ }
 {
     let psn = Psn(psn);
-    let fields = Fields {
-        movie_fragment,
-        sample,
-        offset,
-        priority,
-        dependency,
-        item,
-    };
+    let fields = fields_of(movie_fragment, sample, offset, priority, dependency, item);
     let unit = Unit {
         packet_id,
         kind,

@@ -3,6 +3,7 @@ ghost use mathlib.Core.Path.{_≡_};
 ghost use Prim.Native.Nat.{_*_, _≤_};
 ghost use lib.ListN.{length};
 ghost use Rattle.intake.specs.Slot.{holding};
+ghost use Rattle.receiver.specs.State.{withSlot, withQueue, withChannels};
 ghost use Rattle.receiver.specs.Next.{readAll, nextOf};
 use crate::answer::Answer;
 use crate::slot::is_short;
@@ -13,7 +14,10 @@ use delivery::event::Event;
 use delivery::packet::arrive;
 use delivery::packet::place;
 use delivery::packet::receive;
+use delivery::queue::Queue;
+use intake::held::Cursor;
 use intake::held::Held;
+use reassembly::channel::Channel;
 
 // A tail is held.
 pub fn hold(start: usize, len: usize) -> Held
@@ -26,44 +30,56 @@ pub fn hold(start: usize, len: usize) -> Held
     }
 }
 
-// Reads on until there is an event, or nothing waits.
-fn read_on(st: State, memory: &[u8], collecting: &mut [u8]) -> Answer
+// The state where reading on has come to.
+fn come_to(st: State, held: Held, cursor: Cursor, queue: Queue, channels: [Channel; 16]) -> State
+    ensures { λ r. ⌜ r ≡ withQueue (withChannels (withSlot st held cursor) channels) queue ⌝ }
+{
+    State {
+        held,
+        cursor,
+        queue,
+        channels,
+        ..st
+    }
+}
+
+// Reads on until there is an event, or nothing waits. What it changes is in locals; the rest goes from `st` to the answer.
+pub fn read_on(st: State, memory: &[u8], collecting: &mut [u8]) -> Answer
     requires { ⌜ st .config .watch .n * st .config .limit ≤ length (now collecting) ⌝ }
     ensures { λ r. ⌜ (r, now (collecting .exit)) ≡ readAll st (now (memory .entry)) (now (collecting .entry)) ⌝ }
 {
     let config = st.config;
-    let mut next = st;
+    let mut held = st.held;
+    let mut cursor = st.cursor;
+    let mut queue = st.queue;
+    let mut channels = st.channels;
     loop {
-        let queue = next.queue;
-        let cursor = next.cursor;
         let turn = find(queue, cursor, memory);
-        let rest = turn.queue;
-        next.queue = rest;
-        let past = turn.cursor;
-        next.cursor = past;
+        cursor = turn.cursor;
+        queue = turn.queue;
         let found = turn.found;
         match found {
             Found::Event(event) => {
-                return Answer { event, state: next };
+                let state = come_to(st, held, cursor, queue, channels);
+                return Answer { event, state };
             }
             Found::Packet(start, end) => {
                 let arrived = arrive(config, memory, start, end);
                 let k = place(arrived);
-                let channel = next.channels[k];
-                let j = receive(arrived, channel, rest, memory, collecting, config.limit);
-                let queue = j.queue;
-                next.queue = queue;
+                let channel = channels[k];
+                let j = receive(arrived, channel, queue, memory, collecting, config.limit);
+                queue = j.queue;
                 let after = j.channel;
-                next.channels[k] = after;
+                channels[k] = after;
             }
             Found::Tail(start, len) => {
-                let held = hold(start, len);
-                next.held = held;
+                held = hold(start, len);
             }
             Found::Done => {
-                next.owed = false;
+                let mut state = come_to(st, held, cursor, queue, channels);
+                state.owed = false;
                 let event = Event::Nothing;
-                return Answer { event, state: next };
+                return Answer { event, state };
             }
         }
     }

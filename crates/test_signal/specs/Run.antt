@@ -76,20 +76,16 @@ pub pointed-one : (run : List ℕ) (n : ℕ) (block : List ℕ) → pointedTo ru
 unfolding pointedTo
 pointed-one run n block = rw add-one
 
--- "an unused mode is 0xFF, 0, 0"
-abbrev unused : List ℕ
-unused = 0xff ∷ 0 ∷ 0 ∷ []
+-- `n` unused modes: "an unused mode is 0xFF, 0, 0"
+abbrev unusedModes : ℕ → List ℕ
+unusedModes zero = []
+unusedModes (suc n) = 0xff ∷ 0 ∷ 0 ∷ unusedModes n
 
 -- byte 0; eight modes, the first of modulation 1 and rate 1 for all slots; types, relative stream 0 being TLV; no pointers yet;
 -- relative streams of slots, all 0; stream ids, relative stream 0's being 1
 unfoldable pub blankBlock : List ℕ
 blankBlock =
-    (0 ∷ [])
-    ++ (0x11 ∷ 120 ∷ 0 ∷ [])
-    ++ unused ++ unused ++ unused ++ unused ++ unused ++ unused ++ unused
-    ++ (2 ∷ replicate 15 0)
-    ++ replicate 652 0
-    ++ bytesOf 2 1 ++ replicate 483 0
+    (0 ∷ 0x11 ∷ 120 ∷ 0 ∷ unusedModes 7) ++ (2 ∷ replicate 15 0) ++ replicate 652 0 ++ bytesOf 2 1 ++ replicate 483 0
 
 unfoldable pub controlBlock : List ℕ → List ℕ
 controlBlock run = pointedTo run 3 blankBlock

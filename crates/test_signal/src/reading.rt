@@ -1,9 +1,9 @@
 // The reading: start, frame, and the slots of the run, each with next until nothing waits.
 ghost use mathlib.Core.Path.{_≡_};
 ghost use Rattle.test_signal.specs.Compare.{isSame};
-ghost use Rattle.test_signal.specs.Reading.{unitMore, stepOf, drained, nexts, gaveOf, frameSlot, begun, readOf};
+ghost use Rattle.test_signal.specs.Reading.{unitMore, counted, goesOn, stepOf, drained, nexts};
+ghost use Rattle.test_signal.specs.Reading.{gaveOf, frameSlot, begun, readOf};
 use crate::compare;
-use crate::print;
 use crate::run;
 use crate::sent;
 use delivery::event::Event;
@@ -12,9 +12,10 @@ use reassembly::unit::Unit;
 use receiver::show::show;
 use receiver::state::State;
 
-// How many units and notes came.
+// How many units came, how many of them are the same as were packed, and how many notes came.
 pub struct Counts {
     pub back: u64,
+    pub same: u64,
     pub notes: u64,
 }
 
@@ -47,63 +48,85 @@ fn is_same(k: u64, unit: Unit, bytes: &[u8], source: &[u8]) -> bool
     compare::same_bytes(bytes, wire::memory::part(source, sent.start, sent.len))
 }
 
-// A unit that came: its line, and one more.
-fn take_unit<'a>(
+// A unit that came: one more, and one that is the same, or not.
+fn count_unit<'a>(
     counts: Counts,
     given: Given,
     source: &[u8],
     packet: &'a [u8],
     collecting: &'a [u8],
 ) -> Counts
-    ensures { λ r. ⌜ r ≡ unitMore counts ⌝ }
+    ensures { λ r.
+        ⌜ r ≡ unitMore given (now (source .entry)) (now (packet .entry)) (now (collecting .entry)) counts ⌝ }
 {
     let unit = given.unit;
     let place = given.place;
     let bytes = show(packet, collecting, place);
-    let same = is_same(counts.back, unit, bytes, source);
-    print::unit(unit, bytes.len(), same);
     let back = std::num::wrapping_add_u64(counts.back, 1);
-    Counts { back, ..counts }
+    if !is_same(counts.back, unit, bytes, source) {
+        return Counts { back, ..counts };
+    }
+    Counts {
+        back,
+        same: std::num::wrapping_add_u64(counts.same, 1),
+        ..counts
+    }
 }
 
-fn stepped(state: State, counts: Counts, more: bool) -> Step
-    ensures { λ r. ⌜ r ≡ record { reading = record { state = state; counts = counts }; more = more } ⌝ }
+// The event's unit or note more.
+fn count<'a>(
+    counts: Counts,
+    event: Event,
+    source: &[u8],
+    packet: &'a [u8],
+    collecting: &'a [u8],
+) -> Counts
+    ensures { λ r.
+        ⌜ r ≡ counted event (now (source .entry)) (now (packet .entry)) (now (collecting .entry)) counts ⌝ }
 {
-    let reading = Reading { state, counts };
-    Step { reading, more }
+    match event {
+        Event::Unit(given) => count_unit(counts, given, source, packet, collecting),
+        Event::Note(_, _) => Counts {
+            notes: std::num::wrapping_add_u64(counts.notes, 1),
+            ..counts
+        },
+        Event::Refused(_) => counts,
+        Event::Nothing => counts,
+    }
+}
+
+fn is_more(event: Event) -> bool
+    ensures { λ r. ⌜ r ≡ goesOn event ⌝ }
+{
+    match event {
+        Event::Unit(_) => true,
+        Event::Note(_, _) => true,
+        Event::Refused(_) => false,
+        Event::Nothing => false,
+    }
 }
 
 // A call of next.
 fn call_next(r: Reading, source: &[u8], packet: &[u8], collecting: &mut [u8]) -> Step
-    ensures { λ s. ⌜ (s, now (collecting .exit)) ≡ stepOf r (now (packet .entry)) (now (collecting .entry)) ⌝ }
+    ensures { λ s. ⌜ (s, now (collecting .exit))
+        ≡ stepOf (now (source .entry)) r (now (packet .entry)) (now (collecting .entry)) ⌝ }
 {
     let before = r.state;
-    let counts = r.counts;
     let answer = receiver::next::next(before, packet, collecting);
-    let state = answer.state;
     let event = answer.event;
-    match event {
-        Event::Unit(given) => {
-            let counts = take_unit(counts, given, source, packet, collecting);
-            stepped(state, counts, true)
-        }
-        Event::Note(number, id) => {
-            print::note(number, id);
-            let notes = std::num::wrapping_add_u64(counts.notes, 1);
-            let counts = Counts { notes, ..counts };
-            stepped(state, counts, true)
-        }
-        Event::Refused(number) => {
-            print::refusal(number);
-            stepped(state, counts, false)
-        }
-        Event::Nothing => stepped(state, counts, false),
+    let counts = count(r.counts, event, source, packet, collecting);
+    let state = answer.state;
+    let reading = Reading { state, counts };
+    Step {
+        reading,
+        more: is_more(event),
     }
 }
 
 // Calls of next until nothing waits.
 fn drain(r: Reading, source: &[u8], packet: &[u8], collecting: &mut [u8]) -> Reading
-    ensures { λ s. ⌜ (s, now (collecting .exit)) ≡ drained nexts r (now (packet .entry)) (now (collecting .entry)) ⌝ }
+    ensures { λ s. ⌜ (s, now (collecting .exit))
+        ≡ drained (now (source .entry)) nexts r (now (packet .entry)) (now (collecting .entry)) ⌝ }
 {
     let mut reading = r;
     let mut left = NEXTS;
@@ -127,11 +150,10 @@ fn give(
     collecting: &mut [u8],
 ) -> Reading
     ensures { λ s. ⌜ (s, now (packet .exit), now (collecting .exit))
-        ≡ gaveOf (now (bytes .entry)) (r, now (packet .entry), now (collecting .entry)) ⌝ }
+        ≡ gaveOf (now (source .entry)) (now (bytes .entry)) (r, now (packet .entry), now (collecting .entry)) ⌝ }
 {
     let before = r.state;
     let called = receiver::slot::slot(before, packet, collecting, bytes);
-    print::refusal(called.refusal);
     let state = called.state;
     let counts = r.counts;
     drain(Reading { state, counts }, source, packet, collecting)
@@ -147,14 +169,13 @@ fn take_slot(
     collecting: &mut [u8],
 ) -> Reading
     ensures { λ s. ⌜ (s, now (packet .exit), now (collecting .exit))
-        ≡ gaveOf (frameSlot (now (signal .entry)) i) (r, now (packet .entry), now (collecting .entry)) ⌝ }
+        ≡ gaveOf (now (source .entry)) (frameSlot (now (signal .entry)) i) (r, now (packet .entry), now (collecting .entry)) ⌝ }
 {
     if i % 5 != 0 {
         return give(r, b"", source, packet, collecting);
     }
     let mut bytes = [0u8; 1870];
-    let slot = cutter::slot::cut_slot(signal, run::L, i / 5, &mut bytes);
-    print::refusal(slot.refusal);
+    cutter::slot::cut_slot(signal, run::L, i / 5, &mut bytes);
     give(r, &bytes, source, packet, collecting)
 }
 
@@ -163,19 +184,21 @@ fn begin(signal: &[u8]) -> Reading
     ensures { λ s. ⌜ s ≡ begun (now (signal .entry)) ⌝ }
 {
     let started = receiver::start::start(sent::config());
-    print::refusal(started.refusal);
     let block = run::control_block(signal);
     let fresh = started.state;
     let called = receiver::frame::frame(fresh, &block);
-    print::refusal(called.refusal);
     let state = called.state;
-    let counts = Counts { back: 0, notes: 0 };
+    let counts = Counts {
+        back: 0,
+        same: 0,
+        notes: 0,
+    };
     Reading { state, counts }
 }
 
 pub fn read(source: &[u8], signal: &[u8], packet: &mut [u8], collecting: &mut [u8]) -> Counts
     ensures { λ s. ⌜ (s, now (packet .exit), now (collecting .exit))
-        ≡ readOf (now (signal .entry)) (now (packet .entry)) (now (collecting .entry)) ⌝ }
+        ≡ readOf (now (source .entry)) (now (signal .entry)) (now (packet .entry)) (now (collecting .entry)) ⌝ }
 {
     let mut reading = begin(signal);
     let mut i = 0;

@@ -3,7 +3,6 @@ ghost use mathlib.Core.Path.{_≡_};
 ghost use Prim.Native.Nat.{_<_, _≤_};
 ghost use lib.ListN.{length};
 ghost use Rattle.test_signal.specs.Run.{nullAt, unitWritten, runOf, pointed, blankBlock, controlBlock};
-use crate::print;
 use crate::sent;
 use crate::sent::UNITS;
 
@@ -14,6 +13,8 @@ pub const SLOTS: usize = 3;
 
 // The bytes of a null packet between units.
 const GAP: usize = 150;
+
+pub type Block = [u8; 1178];
 
 // How much of the run is written, and how many units are in it.
 struct Written {
@@ -52,7 +53,6 @@ fn write_unit(w: Written, k: u64, source: &[u8], run: &mut [u8]) -> Written
     let bytes = wire::memory::part(source, sent.start, sent.len);
     let unit = sent.unit;
     let call = packer::pack::pack(unit, sent::CID, 0, sent::PIECE, bytes, &mut run[at..]);
-    print::refusal(call.refusal);
     let end = write_null(run, at + call.len, GAP);
     if call.refusal != 0 {
         return Written {
@@ -88,7 +88,6 @@ fn point(run: &[u8], s: usize, block: &mut [u8])
 {
     let mut bytes = [0u8; 1870];
     let slot = cutter::slot::cut_slot(run, L, s, &mut bytes);
-    print::refusal(slot.refusal);
     wire::field::write16(block, 153 + 20 * s, slot.top);
     wire::field::write16(block, 155 + 20 * s, slot.last);
 }
@@ -122,7 +121,7 @@ const MODES: [u8; 24] = [
 ];
 
 // All slots are of relative stream 0, the TLV stream 1.
-fn blank_block() -> [u8; 1178]
+fn blank_block() -> Block
     ensures { λ r. ⌜ r ≡ blankBlock ⌝ }
 {
     let mut block = [0u8; 1178];
@@ -133,7 +132,7 @@ fn blank_block() -> [u8; 1178]
     block
 }
 
-pub fn control_block(run: &[u8]) -> [u8; 1178]
+pub fn control_block(run: &[u8]) -> Block
     ensures { λ r. ⌜ r ≡ controlBlock (now (run .entry)) ⌝ }
 {
     let mut block = blank_block();

@@ -34,9 +34,10 @@ filledOf p size room =
       written = p .written;
     }
 
--- nothing was wanted, or a block of some size came
+-- nothing was wanted and the pump is as it was, or one was wanted and a block of some size came
 abbrev pub Refilled : Pumped → ℕ → Pumped → Type 0
-Refilled p room r = (r ≡ p) ⊎ ((size : ℕ) × (r ≡ filledOf p size room))
+Refilled p room r =
+    ((wantsOf p ≡ false) × (r ≡ p)) ⊎ ((wantsOf p ≡ true) × (size : ℕ) × (r ≡ filledOf p size room))
 
 -- either number is not 0
 abbrev pub anyOf : ℕ → ℕ → Bool

@@ -1,6 +1,5 @@
 -- What the worked example sends, and what reading it comes to.
 pub mod Sent
-pub mod Line
-pub mod Count
+pub mod Report
 pub mod Reading
 pub mod Outcome

@@ -1,180 +1,146 @@
 -- The reading: start, frame, slot 1, then 119 lost slots, each with next until nothing waits.
 use Prim.Native.Nat.{ℕ, zero, suc, _+_, _-_, _≤_, _<_}
-use mathlib.Core.Path.{_≡_, refl, sym, _∙_, ap}
-use native.Mathlib.Omega.{arith}
+use mathlib.Core.Path.{_≡_, refl}
 use mathlib.Core.Bool.{Bool, true, false, cond}
-use mathlib.Core.List.{List, [], _∷_, _++_}
+use mathlib.Core.List.{List}
+use native.Mathlib.Numerals.{add-one}
+use native.Mathlib.Omega.{arith}
 use lib.ListN.{length}
 use lib.Dec.{eqb}
-use Rattle.receiver.specs.declared.answer.Called.{Called}
-use Rattle.receiver.specs.declared.state.State.{State}
+use Rattle.delivery.specs.declared.event.Event.{Event}
+use Rattle.delivery.specs.declared.event.Event.the-variants.{Nothing, Note, Unit, Refused}
 use Rattle.delivery.specs.Choice.{chosen, chosen-not}
+use Rattle.receiver.specs.declared.answer.Called.{Called}
 use Rattle.receiver.specs.Start.{startOf}
 use Rattle.receiver.specs.Frame.{frameOf}
 use Rattle.receiver.specs.Slot.{slotOf, lostSlotOf}
 use Rattle.receiver.specs.Next.{nextOf}
-use Rattle.worked_example.specs.declared.counts.Counts.{Counts}
-use Rattle.worked_example.specs.declared.line.Line.{Line}
-use Rattle.worked_example.specs.declared.line.Line.the-variants.{Unit, Note, Refused, Nothing}
+use Rattle.receiver.specs.Show.{showOf}
+use Rattle.worked_example.specs.declared.report.Report.{Report}
 use Rattle.worked_example.specs.declared.reading.Reading.{Reading}
 use Rattle.worked_example.specs.declared.reading.Step.{Step}
 use Rattle.worked_example.specs.Sent.{sentConfig, controlBlock, slotData}
-use Rattle.worked_example.specs.Line.{lineOf}
-use Rattle.worked_example.specs.Count.{withFrame, withLine}
+use Rattle.worked_example.specs.Report.{freshReport, withFrame, toldOf, endedOf}
+
+-- what a call other than next tells, by its refusal's number, 0 for none
+abbrev pub refusedOf : ℕ → Event
+refusedOf n = cond (eqb n 0) Nothing (Refused n)
+
+-- the reading after a call other than next, and the lines
+unfoldable pub settledOf : Report → Called → List ℕ → Reading × List ℕ
+settledOf r k out =
+    let t = toldOf r 0 (refusedOf (k .refusal)) out in (record { state = k .state; report = t .0 }, t .1)
+
+-- a unit's length is that of the bytes from show
+abbrev pub shownOf : Event → List ℕ → List ℕ → Event
+shownOf Nothing p c = Nothing
+shownOf (Note n id) p c = Note n id
+shownOf (Unit g) p c =
+    Unit
+    (record {
+      unit = g .unit;
+      place = record { memory = g .place .memory; start = g .place .start; len = length (showOf p c (g .place)) };
+    })
+shownOf (Refused n) p c = Refused n
 
 -- whether next is called again
-abbrev pub goesOn : Line → Bool
-goesOn (Unit u) = true
-goesOn (Note n id) = true
-goesOn (Refused n) = false
+abbrev pub goesOn : Event → Bool
 goesOn Nothing = false
+goesOn (Note n id) = true
+goesOn (Unit g) = true
+goesOn (Refused n) = false
 
--- a line with its frame and slot
-abbrev pub Printed : Type 0
-Printed = ℕ × ℕ × Line
+-- what calls leave: the reading, collecting memory, and the lines
+abbrev pub Left : Type 0
+Left = Reading × List ℕ × List ℕ
 
--- what is printed of a call of next, and of a call that answers a refusal's number, 0 for none
-abbrev pub eventLines : ℕ → ℕ → Line → List Printed
-eventLines frame slot Nothing = []
-eventLines frame slot (Unit u) = (frame, slot, Unit u) ∷ []
-eventLines frame slot (Note n id) = (frame, slot, Note n id) ∷ []
-eventLines frame slot (Refused n) = (frame, slot, Refused n) ∷ []
-
-abbrev pub refusalLines : ℕ → List Printed
-refusalLines n = cond (eqb n 0) [] ((0, 0, Refused n) ∷ [])
-
--- what calls leave, and the lines that they print
-pub record Left : Type 0 where
-  pub reading : Reading
-  pub collecting : List ℕ
-  pub lines : List Printed
-
-abbrev pub leaves : Left → Reading × List ℕ
-leaves l = (l .reading, l .collecting)
-
--- more lines before
-abbrev pub behind : List Printed → Left → Left
-behind ls l = record { reading = l .reading; collecting = l .collecting; lines = ls ++ l .lines }
-
-abbrev pub silent : Reading → List ℕ → Left
-silent r c = record { reading = r; collecting = c; lines = [] }
-
-abbrev pub withState : Reading → State → Reading
-withState r st = record { state = st; counts = r .counts }
-
--- a call of next and its line, with packet memory p and collecting memory c
-unfoldable pub stepOf : Reading → List ℕ → List ℕ → Step × List ℕ
-stepOf r p c =
-    let a = nextOf (r .state) p c in
-    let l = lineOf (a .0 .event) p (a .1) in
-    (record { reading = record { state = a .0 .state; counts = withLine l (r .counts) }; line = l }, a .1)
+-- a call of next, with packet memory p
+unfoldable pub stepOf : ℕ → List ℕ → Left → Step × List ℕ × List ℕ
+stepOf slot p l =
+    let a = nextOf (l .0 .state) p (l .1) in
+    let e = shownOf (a .0 .event) p (a .1) in
+    let t = toldOf (l .0 .report) slot e (l .2) in
+    (record { reading = record { state = a .0 .state; report = t .0 }; more = goesOn e }, a .1, t .1)
 
 -- calls of next until nothing waits, at most `f`
-unfoldable pub drained : ℕ → ℕ → Reading → List ℕ → List ℕ → Left
-drained zero slot r p c = silent r c
-drained (suc f) slot r p c =
-    let s = stepOf r p c in
-    behind (eventLines (r .counts .frames) slot (s .0 .line))
-    (cond (goesOn (s .0 .line)) (drained f slot (s .0 .reading) p (s .1)) (silent (s .0 .reading) (s .1)))
+unfoldable pub drained : ℕ → ℕ → List ℕ → Left → Left
+drained zero slot p l = l
+drained (suc f) slot p l =
+    let s = stepOf slot p l in
+    let m : Left = (s .0 .reading, s .1, s .2) in
+    cond (s .0 .more) (drained f slot p m) m
 
 -- how often next is called after a slot at most
 abbrev pub nexts : ℕ
 nexts = 42869
 
-unfoldable pub lostOf : ℕ → Reading → List ℕ → List ℕ → Left
-lostOf slot r p c =
-    let l = lostSlotOf (r .state) (length p) (length c) in
-    behind (refusalLines (l .refusal)) (drained nexts slot (withState r (l .state)) p c)
+unfoldable pub lostOf : ℕ → List ℕ → Left → Left
+lostOf slot p l =
+    let s = settledOf (l .0 .report) (lostSlotOf (l .0 .state) (length p) (length (l .1))) (l .2) in
+    drained nexts slot p (s .0, l .1, s .1)
 
--- `n` lost slots, from `slot` on
-unfoldable pub fadeOf : ℕ → ℕ → Reading → List ℕ → List ℕ → Left
-fadeOf zero slot r p c = silent r c
-fadeOf (suc n) slot r p c =
-    let l = lostOf slot r p c in
-    behind (l .lines) (fadeOf n (slot + 1) (l .reading) p (l .collecting))
+-- `n` lost slots, from slot 2 on
+unfoldable pub fadeOf : ℕ → List ℕ → Left → Left
+fadeOf zero p l = l
+fadeOf (suc n) p l = lostOf (n + 2) p (fadeOf n p l)
 
-unfoldable pub begun : Reading
-begun = record { state = startOf sentConfig .state; counts = record { frames = 0; units = 0; notes = 0 } }
+unfoldable pub blockTaken : Reading → List ℕ → Reading × List ℕ
+blockTaken r out =
+    let f = frameOf (r .state) controlBlock in settledOf (withFrame (f .refusal) (r .report)) f out
 
-unfoldable pub blockTaken : Reading → Reading
-blockTaken r =
-    let f = frameOf (r .state) controlBlock in
-    record { state = f .state; counts = withFrame (f .refusal) (r .counts) }
+-- a receiver that has read the control block
+unfoldable pub begun : List ℕ → Reading × List ℕ
+begun out = let s = settledOf freshReport (startOf sentConfig) out in blockTaken (s .0) (s .1)
 
--- slot 1, and packet memory
-abbrev pub slotLeaves : Left × List ℕ → Reading × List ℕ × List ℕ
-slotLeaves s = (s .0 .reading, s .1, s .0 .collecting)
-
-unfoldable pub slotTaken : Reading → List ℕ → List ℕ → Left × List ℕ
-slotTaken r p c =
+-- slot 1; packet memory comes behind the reading
+unfoldable pub slotTaken : Reading → List ℕ → List ℕ → List ℕ → Reading × List ℕ × List ℕ × List ℕ
+slotTaken r p c out =
     let s = slotOf (r .state) p c slotData in
-    (behind (refusalLines (s .0 .refusal)) (drained nexts 1 (withState r (s .0 .state)) (s .1) c), s .1)
+    let t = settledOf (r .report) (s .0) out in
+    let l = drained nexts 1 (s .1) (t .0, c, t .1) in
+    (l .0, s .1, l .1, l .2)
 
--- slot 1, and the fade behind it
-abbrev pub slotRead : List ℕ → List ℕ → Left × List ℕ
-slotRead p c = slotTaken (blockTaken begun) p c
+-- the control block, and slot 1
+abbrev pub slotRead : List ℕ → List ℕ → List ℕ → Reading × List ℕ × List ℕ × List ℕ
+slotRead p c out = let b = begun out in slotTaken (b .0) p c (b .1)
 
-unfoldable pub fadeRead : List ℕ → List ℕ → Left
-fadeRead p c = let s = slotRead p c in fadeOf 119 2 (s .0 .reading) (s .1) (s .0 .collecting)
-
--- the counts, and both memories
-unfoldable pub readOf : List ℕ → List ℕ → Counts × List ℕ × List ℕ
-readOf p c = let f = fadeRead p c in (f .reading .counts, slotRead p c .1, f .collecting)
-
--- all that is printed before the last line
-unfoldable pub printed : List ℕ → List ℕ → List Printed
-printed p c =
-    refusalLines (startOf sentConfig .refusal) ++ refusalLines (frameOf (begun .state) controlBlock .refusal)
-    ++ slotRead p c .0 .lines ++ fadeRead p c .lines
+-- the place behind the last line, packet memory, collecting memory, and the lines
+unfoldable pub readOf : List ℕ → List ℕ → List ℕ → ℕ × List ℕ × List ℕ × List ℕ
+readOf p c out =
+    let s = slotRead p c out in
+    let l = fadeOf 119 (s .1) (s .0, s .2, s .3) in
+    let e = endedOf (l .0 .report) (l .2) in
+    (e .0, s .1, l .1, e .1)
 
 -- Laws: a turn of calling next, and of losing slots.
-module _ (slot : ℕ) (r : Reading) (p c : List ℕ) where
-  pub drained-none : (f : ℕ) → f ≤ 0 → leaves (drained f slot r p c) ≡ (r, c)
+module _ (slot : ℕ) (p : List ℕ) (l : Left) where
+  pub drained-none : (f : ℕ) → f ≤ 0 → drained f slot p l ≡ l
   unfolding drained
   drained-none zero h = refl
   drained-none (suc f) h = absurd (omega arith)
 
-  pub drained-last : (f : ℕ) (s : Step) (d : List ℕ) → 0 < f → (s, d) ≡ stepOf r p c → goesOn (s .line) ≡ false
-      → leaves (drained f slot r p c) ≡ (s .reading, d)
-  unfolding drained
-  drained-last zero s d h e m = absurd (omega arith)
-  drained-last (suc f) s d h e m = rw (← e) (ap leaves (chosen-not (goesOn (s .line)) _ _ m))
+  module _ (s : Step) (c out : List ℕ) (e : (s, c, out) ≡ stepOf slot p l) where
+    pub drained-last : (f : ℕ) → 0 < f → s .more ≡ false → drained f slot p l ≡ (s .reading, c, out)
+    unfolding drained
+    drained-last zero h m = absurd (omega arith)
+    drained-last (suc f) h m = rw (← e) (chosen-not (s .more) _ _ m)
 
-  pub drained-on : (f : ℕ) (s : Step) (d : List ℕ) → 0 < f → (s, d) ≡ stepOf r p c → goesOn (s .line) ≡ true
-      → leaves (drained f slot r p c) ≡ leaves (drained (f - 1) slot (s .reading) p d)
-  unfolding drained
-  drained-on zero s d h e m = absurd (omega arith)
-  drained-on (suc f) s d h e m =
-      let k : suc f - 1 ≡ f = omega arith in
-      rw (← e, k) (ap leaves (chosen (goesOn (s .line)) _ _ m))
+    pub drained-on : (f : ℕ) → 0 < f → s .more ≡ true → drained f slot p l ≡ drained (f - 1) slot p (s .reading, c, out)
+    unfolding drained
+    drained-on zero h m = absurd (omega arith)
+    drained-on (suc f) h m =
+        let k : suc f - 1 ≡ f = omega arith in
+        rw (← e, k) (chosen (s .more) _ _ m)
 
-  pub fade-none : (n : ℕ) → n ≤ 0 → leaves (fadeOf n slot r p c) ≡ (r, c)
-  unfolding fadeOf
-  fade-none zero h = refl
-  fade-none (suc n) h = absurd (omega arith)
+pub fade-one : (n : ℕ) (p : List ℕ) (l m g : Left) → l ≡ fadeOf n p m → g ≡ lostOf (n + 2) p l → g ≡ fadeOf (n + 1) p m
+unfolding fadeOf
+fade-one n p l m g e h = rw (add-one, ← e, h)
 
-  pub fade-on : (n k : ℕ) (s : Reading) (d : List ℕ) → n ≡ k + 1 → (s, d) ≡ leaves (lostOf slot r p c)
-      → leaves (fadeOf n slot r p c) ≡ leaves (fadeOf k (slot + 1) s p d)
-  unfolding fadeOf
-  fade-on n k s d h e =
-      let g : n ≡ suc k = omega arith in
-      rw g (ap (λ (x : Reading × List ℕ). leaves (fadeOf k (slot + 1) (x .0) p (x .1))) (sym e))
-
--- slot 1, by what the calls left; and the whole reading
-pub slot-taken : (r : Reading) (p c : List ℕ) (called : Called) (q : List ℕ) (s : Reading) (d : List ℕ)
+-- slot 1, by what the calls left
+pub slot-taken : (r : Reading) (p c out : List ℕ) (called : Called) (q : List ℕ) (s : Reading) (o : List ℕ) (l : Left)
     → (called, q) ≡ slotOf (r .state) p c slotData
-    → (s, d) ≡ leaves (drained nexts 1 (withState r (called .state)) q c)
-    → (s, q, d) ≡ slotLeaves (slotTaken r p c)
+    → (s, o) ≡ settledOf (r .report) called out
+    → l ≡ drained nexts 1 q (s, c, o)
+    → (l .0, q, l .1, l .2) ≡ slotTaken r p c out
 unfolding slotTaken
-slot-taken r p c called q s d e h = rw (← e) (ap (λ (x : Reading × List ℕ). (x .0, q, x .1)) h)
-
-pub all-read : (p c : List ℕ) (r : Reading) (q b : List ℕ) (s : Reading) (d : List ℕ)
-    → (r, q, b) ≡ slotLeaves (slotRead p c)
-    → (s, d) ≡ leaves (fadeOf 119 2 r q b)
-    → (s .counts, q, d) ≡ readOf p c
-unfolding readOf fadeRead
-all-read p c r q b s d e h =
-    ap (λ (x : Reading × List ℕ). (x .0 .counts, q, x .1)) h
-    ∙ ap
-    (λ (x : Reading × List ℕ × List ℕ). let f = fadeOf 119 2 (x .0) (x .1) (x .2) in (f .reading .counts, x .1, f .collecting))
-    e
+slot-taken r p c out called q s o l e f h = rw (← e, ← f, h)

@@ -1,68 +1,112 @@
-// The reading: start, frame, slot 1, 119 lost slots, each with next until nothing waits.
+// The reading: start, frame, slot 1, 119 lost slots, each with next until nothing waits. Its lines go to `out`.
 ghost use mathlib.Core.Path.{_≡_};
-ghost use Rattle.worked_example.specs.Reading.{goesOn, stepOf, leaves, drained, nexts, lostOf, fadeOf};
-ghost use Rattle.worked_example.specs.Reading.{begun, blockTaken, slotLeaves, slotTaken, readOf};
-use crate::counts::Counts;
-use crate::counts::with_frame;
-use crate::counts::with_line;
-use crate::line::Line;
-use crate::print;
+ghost use Rattle.worked_example.specs.Reading.{refusedOf, settledOf, shownOf, goesOn, stepOf, drained, nexts};
+ghost use Rattle.worked_example.specs.Reading.{lostOf, fadeOf, blockTaken, begun, slotTaken, readOf};
+use crate::report;
+use crate::report::Report;
+use crate::report::tell;
+use crate::sent;
+use delivery::event::Event;
+use delivery::event::Given;
+use delivery::event::Place;
+use receiver::answer::Called;
+use receiver::show::show;
 use receiver::state::State;
 
 pub struct Reading {
     pub state: State,
-    pub counts: Counts,
+    pub report: Report,
 }
 
-// A call of next: the reading after it, and its line.
+// A call of next: the reading after it, and whether next is called again.
 pub struct Step {
     pub reading: Reading,
-    pub line: Line,
+    pub more: bool,
 }
 
 // At most so many calls of next follow a slot (Bound of broadcast), so this never ends a reading; it shows that the loop ends.
 const NEXTS: u64 = 42869;
 
-fn is_more(line: Line) -> bool
-    ensures { λ r. ⌜ r ≡ goesOn line ⌝ }
+// What a call other than next tells: its refusal, 0 for none.
+fn refused(number: u8) -> Event
+    ensures { λ r. ⌜ r ≡ refusedOf number ⌝ }
 {
-    match line {
-        Line::Unit(_) => true,
-        Line::Note(_, _) => true,
-        Line::Refused(_) => false,
-        Line::Nothing => false,
+    if number == 0 {
+        return Event::Nothing;
+    }
+    Event::Refused(number)
+}
+
+// The reading after a call other than next.
+fn settle(report: Report, called: Called, out: &mut [u8]) -> Reading
+    ensures { λ s. ⌜ (s, now (out .exit)) ≡ settledOf report called (now (out .entry)) ⌝ }
+{
+    let event = refused(called.refusal);
+    let report = tell(report, 0, event, out);
+    let state = called.state;
+    Reading { state, report }
+}
+
+// A unit's length is that of the bytes that show returns.
+fn shown<'a>(event: Event, packet: &'a [u8], collecting: &'a [u8]) -> Event
+    ensures { λ r. ⌜ r ≡ shownOf event (now (packet .entry)) (now (collecting .entry)) ⌝ }
+{
+    match event {
+        Event::Nothing => event,
+        Event::Note(_, _) => event,
+        Event::Unit(given) => {
+            let stands = given.place;
+            let bytes = show(packet, collecting, stands);
+            let place = Place {
+                len: bytes.len(),
+                ..stands
+            };
+            Event::Unit(Given { place, ..given })
+        }
+        Event::Refused(_) => event,
     }
 }
 
-// A call of next; its line is printed and counted.
-fn call_next(r: Reading, slot: u64, packet: &[u8], collecting: &mut [u8]) -> Step
-    ensures { λ s. ⌜ (s, now (collecting .exit)) ≡ stepOf r (now (packet .entry)) (now (collecting .entry)) ⌝ }
+fn is_more(event: Event) -> bool
+    ensures { λ r. ⌜ r ≡ goesOn event ⌝ }
+{
+    match event {
+        Event::Nothing => false,
+        Event::Note(_, _) => true,
+        Event::Unit(_) => true,
+        Event::Refused(_) => false,
+    }
+}
+
+// A call of next; its event is told.
+fn call_next(r: Reading, slot: u64, packet: &[u8], collecting: &mut [u8], out: &mut [u8]) -> Step
+    ensures { λ s. ⌜ (s, now (collecting .exit), now (out .exit))
+        ≡ stepOf slot (now (packet .entry)) (r, now (collecting .entry), now (out .entry)) ⌝ }
 {
     let before = r.state;
     let answer = receiver::next::next(before, packet, collecting);
-    let event = answer.event;
+    let given = answer.event;
+    let event = shown(given, packet, collecting);
+    let report = tell(r.report, slot, event, out);
     let state = answer.state;
-    let line = crate::line::of_event(event, packet, collecting);
-    let given = r.counts;
-    print::line(given.frames, slot, line);
-    let counts = with_line(given, line);
-    let reading = Reading { state, counts };
-    Step { reading, line }
+    let reading = Reading { state, report };
+    Step {
+        reading,
+        more: is_more(event),
+    }
 }
 
 // Calls of next until nothing waits.
-fn drain(r: Reading, slot: u64, packet: &[u8], collecting: &mut [u8]) -> Reading
-    ensures { λ s.
-        ⌜ (s, now (collecting .exit))
-        ≡ leaves (drained nexts slot r (now (packet .entry)) (now (collecting .entry))) ⌝ }
+fn drain(r: Reading, slot: u64, packet: &[u8], collecting: &mut [u8], out: &mut [u8]) -> Reading
+    ensures { λ s. ⌜ (s, now (collecting .exit), now (out .exit))
+        ≡ drained nexts slot (now (packet .entry)) (r, now (collecting .entry), now (out .entry)) ⌝ }
 {
     let mut reading = r;
     let mut left = NEXTS;
     while left > 0 {
-        let s = call_next(reading, slot, packet, collecting);
+        let s = call_next(reading, slot, packet, collecting, out);
         reading = s.reading;
-        let line = s.line;
-        if !is_more(line) {
+        if !s.more {
             return reading;
         }
         left -= 1;
@@ -71,77 +115,68 @@ fn drain(r: Reading, slot: u64, packet: &[u8], collecting: &mut [u8]) -> Reading
 }
 
 // A lost slot.
-fn lose(r: Reading, slot: u64, packet: &[u8], collecting: &mut [u8]) -> Reading
-    ensures { λ s. ⌜ (s, now (collecting .exit)) ≡ leaves (lostOf slot r (now (packet .entry)) (now (collecting .entry))) ⌝ }
+fn lose(r: Reading, slot: u64, packet: &[u8], collecting: &mut [u8], out: &mut [u8]) -> Reading
+    ensures { λ s. ⌜ (s, now (collecting .exit), now (out .exit))
+        ≡ lostOf slot (now (packet .entry)) (r, now (collecting .entry), now (out .entry)) ⌝ }
 {
     let before = r.state;
     let called = receiver::slot::lost_slot(before, packet, collecting);
-    print::refusal(called.refusal);
-    let state = called.state;
-    let counts = r.counts;
-    drain(Reading { state, counts }, slot, packet, collecting)
+    let reading = settle(r.report, called, out);
+    drain(reading, slot, packet, collecting, out)
 }
 
 // Slots 2 to 120, lost.
-fn fade(r: Reading, packet: &[u8], collecting: &mut [u8]) -> Reading
-    ensures { λ s. ⌜ (s, now (collecting .exit)) ≡ leaves (fadeOf 119 2 r (now (packet .entry)) (now (collecting .entry))) ⌝ }
+fn fade(r: Reading, packet: &[u8], collecting: &mut [u8], out: &mut [u8]) -> Reading
+    ensures { λ s. ⌜ (s, now (collecting .exit), now (out .exit))
+        ≡ fadeOf 119 (now (packet .entry)) (r, now (collecting .entry), now (out .entry)) ⌝ }
 {
     let mut reading = r;
     let mut slot = 2;
     while slot <= 120 {
-        reading = lose(reading, slot, packet, collecting);
+        reading = lose(reading, slot, packet, collecting, out);
         slot += 1;
     }
     reading
 }
 
-// A receiver that has read nothing.
-fn begin() -> Reading
-    ensures { λ s. ⌜ s ≡ begun ⌝ }
-{
-    let called = receiver::start::start(crate::sent::config());
-    print::refusal(called.refusal);
-    let state = called.state;
-    let counts = Counts {
-        frames: 0,
-        units: 0,
-        notes: 0,
-    };
-    Reading { state, counts }
-}
-
 // The frame's control block.
-fn take_block(r: Reading) -> Reading
-    ensures { λ s. ⌜ s ≡ blockTaken r ⌝ }
+fn take_block(r: Reading, out: &mut [u8]) -> Reading
+    ensures { λ s. ⌜ (s, now (out .exit)) ≡ blockTaken r (now (out .entry)) ⌝ }
 {
-    let block = crate::sent::control_block();
+    let block = sent::control_block();
     let before = r.state;
     let called = receiver::frame::frame(before, &block);
-    print::refusal(called.refusal);
-    let state = called.state;
-    let counts = with_frame(r.counts, called.refusal);
-    Reading { state, counts }
+    let report = report::with_frame(r.report, called.refusal);
+    settle(report, called, out)
+}
+
+// A receiver that has read the control block.
+fn begin(out: &mut [u8]) -> Reading
+    ensures { λ s. ⌜ (s, now (out .exit)) ≡ begun (now (out .entry)) ⌝ }
+{
+    let called = receiver::start::start(sent::config());
+    let reading = settle(report::fresh(), called, out);
+    take_block(reading, out)
 }
 
 // Slot 1 with its data.
-fn take_slot(r: Reading, packet: &mut [u8], collecting: &mut [u8]) -> Reading
-    ensures { λ s.
-        ⌜ (s, now (packet .exit), now (collecting .exit))
-        ≡ slotLeaves (slotTaken r (now (packet .entry)) (now (collecting .entry))) ⌝ }
+fn take_slot(r: Reading, packet: &mut [u8], collecting: &mut [u8], out: &mut [u8]) -> Reading
+    ensures { λ s. ⌜ (s, now (packet .exit), now (collecting .exit), now (out .exit))
+        ≡ slotTaken r (now (packet .entry)) (now (collecting .entry)) (now (out .entry)) ⌝ }
 {
-    let bytes = crate::sent::slot_data();
+    let bytes = sent::slot_data();
     let before = r.state;
     let called = receiver::slot::slot(before, packet, collecting, &bytes);
-    print::refusal(called.refusal);
-    let state = called.state;
-    let counts = r.counts;
-    drain(Reading { state, counts }, 1, packet, collecting)
+    let reading = settle(r.report, called, out);
+    drain(reading, 1, packet, collecting, out)
 }
 
-pub fn read(packet: &mut [u8], collecting: &mut [u8]) -> Counts
-    ensures { λ s. ⌜ (s, now (packet .exit), now (collecting .exit)) ≡ readOf (now (packet .entry)) (now (collecting .entry)) ⌝ }
+// All lines; the place behind the last.
+pub fn read(packet: &mut [u8], collecting: &mut [u8], out: &mut [u8]) -> usize
+    ensures { λ r. ⌜ (r, now (packet .exit), now (collecting .exit), now (out .exit))
+        ≡ readOf (now (packet .entry)) (now (collecting .entry)) (now (out .entry)) ⌝ }
 {
-    let reading = take_slot(take_block(begin()), packet, collecting);
-    let end = fade(reading, packet, collecting);
-    end.counts
+    let reading = take_slot(begin(out), packet, collecting, out);
+    let last = fade(reading, packet, collecting, out);
+    report::end(last.report, out)
 }

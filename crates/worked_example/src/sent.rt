@@ -4,6 +4,10 @@ ghost use Rattle.worked_example.specs.Sent.{sentConfig, controlBlock, sl
 use mmtp::watch::Watch;
 use reassembly::config::Config;
 
+pub type Block = [u8; 1178];
+
+pub type Slot = [u8; 1870];
+
 // A TLV packet of 23 bytes: compressed header 0x61, CID 0; MMTP payload type 2, packet_id 0, psn 7; FI 00, 2 bytes.
 const PACKET: [u8; 23] = [
     0x7f,
@@ -76,7 +80,7 @@ pub fn config() -> Config
 }
 
 // All slots are of relative stream 0, the TLV stream 1; slot 1's pointers are 0 and 1,870.
-pub fn control_block() -> [u8; 1178]
+pub fn control_block() -> Block
     ensures { λ r. ⌜ r ≡ controlBlock ⌝ }
 {
     let mut block = [0u8; 1178];
@@ -89,7 +93,7 @@ pub fn control_block() -> [u8; 1178]
 }
 
 // The packet, and a null packet of the other 1,847 bytes.
-pub fn slot_data() -> [u8; 1870]
+pub fn slot_data() -> Slot
     ensures { λ r. ⌜ r ≡ slotData ⌝ }
 {
     let mut bytes = [0u8; 1870];

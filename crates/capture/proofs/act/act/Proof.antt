@@ -16,11 +16,15 @@ letter-of-requires c κs = search needs
 is-fit-requires : tie.Need-is-fit-requires
 is-fit-requires c κs = search needs
 
+end-requires : tie.Need-end-requires
+end-requires c κs = search needs
+
 returns : tie.Need-returns
 returns c =
-    let f = c .before .before .before in
-    sym (acted-unknown _ _ _ _ _ _ _ (sym (f .before .letter-of .ensures))
-    (sym (f .is-fit .ensures) ∙ not-true _ (c .before .before .if1 .taken)))
+    let f = c .before .before in
+    rw (c .end .ensures)
+    (sym (acted-unknown _ _ _ _ _ _ _ (sym (f .before .letter-of .ensures))
+    (sym (f .is-fit .ensures) ∙ not-true _ (c .before .if1 .taken))))
 
 call-requires : tie.Need-call-requires
 call-requires c κs =
@@ -48,6 +52,9 @@ put-refused-requires c κs =
     let k = c .before .before .before .before .before .before .before .before in
     k .before .before .before .before .before .before .before .before .before .before .pre .2
 
+end-requires-2 : tie.Need-end-requires-2
+end-requires-2 c κs = search needs
+
 same-length-2 : tie.Need-same-length-2
 same-length-2 c = search needs
 
@@ -56,12 +63,13 @@ same-length-3 c = search needs
 
 returns-3 : tie.Need-returns-3
 returns-3 c =
-    let w = c .before .before .before .before in
+    let w = c .before .before .before in
     let k = w .before .before .before .before .before .before .before .before in
     let f = k .before .before .before .before in
-    sym (acted-refused _ _ _ _ _ _ _ (sym (f .before .letter-of .ensures))
+    rw (c .end2 .ensures)
+    (sym (acted-refused _ _ _ _ _ _ _ (sym (f .before .letter-of .ensures))
     (sym (f .is-fit .ensures) ∙ not-false _ (k .before .before .before .if1 .left)) _ _ (k .call .ensures)
-    (w .before .before .if2 .left) _ _ (w .put-refused .ensures .0))
+    (w .before .before .if2 .left) _ _ (w .put-refused .ensures .written)))
 
 pub act-spec : {M : Type 1} → statement M
 act-spec =
@@ -70,12 +78,14 @@ act-spec =
     shared-slice-read-letter-of
     letter-of-requires
     is-fit-requires
+    end-requires
     returns
     call-requires
     after-call-requires
     same-length
     returns-2
     put-refused-requires
+    end-requires-2
     same-length-2
     same-length-3
     returns-3)

@@ -30,7 +30,7 @@ returns-2 : tie.Need-returns-2
 returns-2 c =
     let w = c .before .before in
     let r = w .before .before in
-    w .put-end .ensures .0 ∙ sym (finish-line _ _ _ (sym (r .before .has-room .ensures) ∙ not-false _ (r .if1 .left)))
+    w .put-end .ensures .written ∙ sym (finish-line _ _ _ (sym (r .before .has-room .ensures) ∙ not-false _ (r .if1 .left)))
 
 pub finish-spec : {M : Type 1} → statement M
 finish-spec = tie.close (tie.spec has-room-requires returns put-end-requires same-length returns-2)

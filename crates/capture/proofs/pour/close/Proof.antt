@@ -16,6 +16,9 @@ enum-told-3 c = search needs
 enum-told-4 : tie.Need-enum-told-4
 enum-told-4 c = search needs
 
+end-requires : tie.Need-end-requires
+end-requires c κs = search needs
+
 returns : tie.Need-returns
 unfolding closed
 returns c = rw (c .before .before .enum-told .given .1)
@@ -30,9 +33,9 @@ returns-3 c = rw (c .enum-told3 .given .1)
 
 returns-4 : tie.Need-returns-4
 unfolding closed
-returns-4 c = rw (c .before .before .enum-told4 .given .1)
+returns-4 c = rw (c .before .enum-told4 .given .1) (c .end .ensures)
 
 pub close-spec : {M : Type 1} → statement M
 close-spec =
     tie.close
-    (tie.spec enum-told enum-told-2 enum-told-3 enum-told-4 returns returns-2 returns-3 returns-4)
+    (tie.spec enum-told enum-told-2 enum-told-3 enum-told-4 end-requires returns returns-2 returns-3 returns-4)

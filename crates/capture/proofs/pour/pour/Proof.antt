@@ -35,18 +35,22 @@ put-refused-requires c κs =
     (sym (r .before .has-room .ensures) ∙ not-false _ (r .if2 .left)) in
     omega arith
 
+end-requires : tie.Need-end-requires
+end-requires c κs = search needs
+
 same-length : tie.Need-same-length
 same-length c = search needs
 
 returns-3 : tie.Need-returns-3
 returns-3 c =
-    let w = c .before .before .before .before in
+    let w = c .before .before .before in
     let f = w .before .before in
     let r = f .before .before .before .before in
     let b = r .before .before in
-    sym (pour-short _ _ _ _ _ (sym (b .before .is-busy .ensures) ∙ not-false _ (b .if1 .left))
+    rw (c .end .ensures)
+    (sym (pour-short _ _ _ _ _ (sym (b .before .is-busy .ensures) ∙ not-false _ (b .if1 .left))
     (sym (r .before .has-room .ensures) ∙ not-false _ (r .if2 .left)) (sym (f .before .is-short .ensures) ∙ f .if3 .taken) _ _
-    (w .put-refused .ensures .0))
+    (w .put-refused .ensures .written)))
 
 drain-requires : tie.Need-drain-requires
 drain-requires c κs =
@@ -76,6 +80,7 @@ pour-spec =
     returns-2
     is-short-requires
     put-refused-requires
+    end-requires
     same-length
     returns-3
     drain-requires

@@ -1,7 +1,7 @@
 -- Why `put_event` meets its contract: by the event.
 use mathlib.Core.Path.{sym}
 use native.Mathlib.Omega.{arith}
-use Rattle.capture.specs.Text.{wrote-none}
+use Rattle.lines.specs.Text.{wrote-none, put-within}
 use Rattle.capture.specs.Capture.{eventLine}
 use borrow.Author.Needs.{needs}
 use Rattle.capture.proofs.pour.put_event.Statement.{statement}
@@ -30,7 +30,7 @@ put-refused-requires c κs = search needs
 
 returns : tie.Need-returns
 unfolding eventLine
-returns c = rw (c .enum-told .given .1) (sym (wrote-none _ _), omega arith)
+returns c = rw (c .enum-told .given .1) (record { written = sym (wrote-none _ _); within = omega arith })
 
 same-length : tie.Need-same-length
 same-length c = search needs
@@ -39,7 +39,7 @@ returns-2 : tie.Need-returns-2
 unfolding eventLine
 returns-2 c =
     let a = c .before .before in
-    rw (a .before .before .before .event .given .1) (a .put-note .ensures .0, omega (arith, a .put-note .ensures .1))
+    rw (a .before .before .before .event .given .1) (put-within (a .put-note .ensures) (omega arith))
 
 same-length-2 : tie.Need-same-length-2
 same-length-2 c = search needs
@@ -48,7 +48,7 @@ returns-3 : tie.Need-returns-3
 unfolding eventLine
 returns-3 c =
     let a = c .before .before in
-    rw (a .before .before .before .event2 .given .1) (a .put-unit .ensures .0, omega (arith, a .put-unit .ensures .1))
+    rw (a .before .before .before .event2 .given .1) (put-within (a .put-unit .ensures) (omega arith))
 
 same-length-3 : tie.Need-same-length-3
 same-length-3 c = search needs
@@ -57,7 +57,7 @@ returns-4 : tie.Need-returns-4
 unfolding eventLine
 returns-4 c =
     let a = c .before .before in
-    rw (a .before .before .before .event3 .given .1) (a .put-refused .ensures .0, omega (arith, a .put-refused .ensures .1))
+    rw (a .before .before .before .event3 .given .1) (put-within (a .put-refused .ensures) (omega arith))
 
 pub put-event-spec : {M : Type 1} → statement M
 put-event-spec =

@@ -1,64 +1,55 @@
--- Why `same_fields` meets its contract: the first field that differs decides.
-use borrow.Author.Tests.{eq-eqb, ne-eqb}
+-- Why `same_fields` meets its contract: field by field.
+use borrow.Author.Needs.{needs}
 use Rattle.test_signal.specs.Compare.{sameFields}
-use Rattle.test_signal.proofs.compare.same_fields.Statement.{statement}
 use Rattle.test_signal.proofs.compare.same_fields.Tie as tie
+use Rattle.test_signal.proofs.compare.same_fields.Statement.{statement}
+
+agree-requires : tie.Need-agree-requires
+agree-requires c κs = search needs
+
+agree-requires-2 : tie.Need-agree-requires-2
+agree-requires-2 c κs = search needs
+
+cast-agree : tie.Need-cast-agree
+cast-agree c = search needs
+
+cast-agree-2 : tie.Need-cast-agree-2
+cast-agree-2 c = search needs
+
+agree-requires-3 : tie.Need-agree-requires-3
+agree-requires-3 c κs = search needs
+
+cast-agree-3 : tie.Need-cast-agree-3
+cast-agree-3 c = search needs
+
+cast-agree-4 : tie.Need-cast-agree-4
+cast-agree-4 c = search needs
+
+agree-requires-4 : tie.Need-agree-requires-4
+agree-requires-4 c κs = search needs
+
+agree-requires-5 : tie.Need-agree-requires-5
+agree-requires-5 c κs = search needs
 
 returns : tie.Need-returns
 unfolding sameFields
-returns c = rw (ne-eqb _ _ (c .if1 .taken))
-
-returns-2 : tie.Need-returns-2
-unfolding sameFields
-returns-2 c =
-    let d1 = c .before .before .before in
-    rw (eq-eqb _ _ (d1 .if1 .left), ne-eqb _ _ (c .if2 .taken))
-
-returns-3 : tie.Need-returns-3
-unfolding sameFields
-returns-3 c =
-    let d2 = c .before .before .before in
-    let d1 = d2 .before .before .before in
-    rw (eq-eqb _ _ (d1 .if1 .left), eq-eqb _ _ (d2 .if2 .left), ne-eqb _ _ (c .if3 .taken))
-
-returns-4 : tie.Need-returns-4
-unfolding sameFields
-returns-4 c =
-    let d3 = c .before .before .before in
-    let d2 = d3 .before .before .before in
-    let d1 = d2 .before .before .before in
-    rw (eq-eqb _ _ (d1 .if1 .left), eq-eqb _ _ (d2 .if2 .left), eq-eqb _ _ (d3 .if3 .left), ne-eqb _ _ (c .if4 .taken))
-
-returns-5 : tie.Need-returns-5
-unfolding sameFields
-returns-5 c =
-    let d4 = c .before .before .before in
-    let d3 = d4 .before .before .before in
-    let d2 = d3 .before .before .before in
-    let d1 = d2 .before .before .before in
-    rw (
-      eq-eqb _ _ (d1 .if1 .left),
-      eq-eqb _ _ (d2 .if2 .left),
-      eq-eqb _ _ (d3 .if3 .left),
-      eq-eqb _ _ (d4 .if4 .left),
-      ne-eqb _ _ (c .if5 .taken),
-    )
-
-returns-6 : tie.Need-returns-6
-unfolding sameFields
-returns-6 c =
-    let d5 = c .before .before in
-    let d4 = d5 .before .before .before in
-    let d3 = d4 .before .before .before in
-    let d2 = d3 .before .before .before in
-    let d1 = d2 .before .before .before in
-    rw (
-      eq-eqb _ _ (d1 .if1 .left),
-      eq-eqb _ _ (d2 .if2 .left),
-      eq-eqb _ _ (d3 .if3 .left),
-      eq-eqb _ _ (d4 .if4 .left),
-      eq-eqb _ _ (d5 .if5 .left),
-    )
+returns c =
+    let a4 = c .before in
+    let a3 = a4 .before .before .before in
+    let a2 = a3 .before .before .before in
+    rw (c .agree5 .ensures, a4 .agree4 .ensures, a3 .agree3 .ensures, a2 .agree2 .ensures, a2 .before .agree .ensures)
 
 pub same-fields-spec : {M : Type 1} → statement M
-same-fields-spec = tie.close (tie.spec returns returns-2 returns-3 returns-4 returns-5 returns-6)
+same-fields-spec =
+    tie.close
+    (tie.spec
+    agree-requires
+    agree-requires-2
+    cast-agree
+    cast-agree-2
+    agree-requires-3
+    cast-agree-3
+    cast-agree-4
+    agree-requires-4
+    agree-requires-5
+    returns)

@@ -1,53 +1,54 @@
--- Why `same_unit` meets its contract: the first field that differs decides.
-use borrow.Author.Tests.{eq-eqb, ne-eqb}
-use Rattle.test_signal.specs.Compare.{sameUnit}
+-- Why `same_unit` meets its contract: the numbers agree, or not; then the fields.
+use mathlib.Core.Path.{sym, _∙_}
+use borrow.Author.Tests.{not-true, not-false}
 use borrow.Author.Needs.{needs}
+use Rattle.test_signal.specs.Compare.{sameUnit}
 use Rattle.test_signal.proofs.compare.same_unit.Statement.{statement}
 use Rattle.test_signal.proofs.compare.same_unit.Tie as tie
 
+cast-agree : tie.Need-cast-agree
+cast-agree c = search needs
+
+cast-agree-2 : tie.Need-cast-agree-2
+cast-agree-2 c = search needs
+
+agree-requires : tie.Need-agree-requires
+agree-requires c κs = search needs
+
+agree-requires-2 : tie.Need-agree-requires-2
+agree-requires-2 c κs = search needs
+
+agree-requires-3 : tie.Need-agree-requires-3
+agree-requires-3 c κs = search needs
+
 returns : tie.Need-returns
 unfolding sameUnit
-returns c = rw (ne-eqb _ _ (c .if1 .taken))
-
-returns-2 : tie.Need-returns-2
-unfolding sameUnit
-returns-2 c =
-    let d1 = c .before .before .before in
-    rw (eq-eqb _ _ (d1 .if1 .left), ne-eqb _ _ (c .if2 .taken))
-
-returns-3 : tie.Need-returns-3
-unfolding sameUnit
-returns-3 c =
-    let d2 = c .before .before .before in
-    let d1 = d2 .before .before .before in
-    rw (eq-eqb _ _ (d1 .if1 .left), eq-eqb _ _ (d2 .if2 .left), ne-eqb _ _ (c .if3 .taken))
-
-returns-4 : tie.Need-returns-4
-unfolding sameUnit
-returns-4 c =
-    let d3 = c .before .before .before in
-    let d2 = d3 .before .before .before in
-    let d1 = d2 .before .before .before in
-    rw (eq-eqb _ _ (d1 .if1 .left), eq-eqb _ _ (d2 .if2 .left), eq-eqb _ _ (d3 .if3 .left), ne-eqb _ _ (c .if4 .taken))
+returns c =
+    let a3 = c .before in
+    let a2 = a3 .before in
+    let e = rw (a2 .agree2 .ensures, a2 .before .agree .ensures) at (a3 .agree3 .ensures) in
+    rw (sym e ∙ not-true _ (c .if1 .taken))
 
 same-fields-requires : tie.Need-same-fields-requires
 same-fields-requires c κs = search needs
 
-returns-5 : tie.Need-returns-5
+returns-2 : tie.Need-returns-2
 unfolding sameUnit
-returns-5 c =
-    let d4 = c .before in
-    let d3 = d4 .before .before .before in
-    let d2 = d3 .before .before .before in
-    let d1 = d2 .before .before .before in
-    rw (
-      eq-eqb _ _ (d1 .if1 .left),
-      eq-eqb _ _ (d2 .if2 .left),
-      eq-eqb _ _ (d3 .if3 .left),
-      eq-eqb _ _ (d4 .if4 .left),
-      c .same-fields .ensures,
-    )
+returns-2 c =
+    let a3 = c .before .before in
+    let a2 = a3 .before in
+    let e = rw (a2 .agree2 .ensures, a2 .before .agree .ensures) at (a3 .agree3 .ensures) in
+    rw (sym e ∙ not-false _ (c .before .if1 .left)) (c .same-fields .ensures)
 
 pub same-unit-spec : {M : Type 1} → statement M
 same-unit-spec =
-    tie.close (tie.spec returns returns-2 returns-3 returns-4 same-fields-requires returns-5)
+    tie.close
+    (tie.spec
+    cast-agree
+    cast-agree-2
+    agree-requires
+    agree-requires-2
+    agree-requires-3
+    returns
+    same-fields-requires
+    returns-2)

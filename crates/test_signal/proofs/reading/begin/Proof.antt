@@ -10,9 +10,6 @@ config-requires c κs = search needs
 start-requires : tie.Need-start-requires
 start-requires c κs = search needs
 
-refusal-requires : tie.Need-refusal-requires
-refusal-requires c κs = search needs
-
 control-block-requires : tie.Need-control-block-requires
 control-block-requires c κs = search needs
 
@@ -22,15 +19,12 @@ slice-aggregate-frame c = search needs
 frame-requires : tie.Need-frame-requires
 frame-requires c κs = search needs
 
-refusal-requires-2 : tie.Need-refusal-requires-2
-refusal-requires-2 c κs = search needs
-
 returns : tie.Need-returns
 unfolding begun
 returns c =
-    let f = c .before .before in
+    let f = c .before in
     let b = f .before .before .before in
-    let s = b .before .before in
+    let s = b .before in
     rw (f .frame .ensures, b .control-block .ensures, s .start .ensures, s .before .config .ensures)
 
 pub begin-spec : {M : Type 1} → statement M
@@ -39,9 +33,7 @@ begin-spec =
     (tie.spec
     config-requires
     start-requires
-    refusal-requires
     control-block-requires
     slice-aggregate-frame
     frame-requires
-    refusal-requires-2
     returns)

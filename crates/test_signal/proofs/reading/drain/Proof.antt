@@ -10,7 +10,7 @@ use Rattle.test_signal.proofs.reading.drain.Tie as tie
 
 abbrev Inv-loop : tie.InvT-loop
 Inv-loop source packet collecting₀ reading₀ left₀ collecting reading left =
-    (drained left reading packet collecting ≡ drained nexts reading₀ packet collecting₀)
+    (drained source left reading packet collecting ≡ drained source nexts reading₀ packet collecting₀)
     × (length collecting ≡ length collecting₀)
 
 abbrev μ-loop : tie.MeasureT-loop
@@ -30,7 +30,7 @@ returns c =
     let d = c .before .before .before .before .before in
     let l = d .before .before in
     let m = not-true _ (c .if1 .taken) in
-    sym (drained-last _ _ _ _ _ _ (l .loop-test .taken) (d .call-next .ensures) m) ∙ l .before .loop .inv .0
+    sym (drained-last _ _ _ _ _ _ (d .call-next .ensures) _ (l .loop-test .taken) m) ∙ l .before .loop .inv .0
 
 sub-left : tie.Need-sub-left Inv-loop μ-loop
 sub-left c = search needs
@@ -43,13 +43,13 @@ loop-again c =
     let d = c .before .before .before .before .before in
     let l = d .before .before in
     let m = not-false _ (c .if1 .left) in
-    (sym (drained-on _ _ _ _ _ _ (l .loop-test .taken) (d .call-next .ensures) m) ∙ l .before .loop .inv .0, search needs)
+    (sym (drained-on _ _ _ _ _ _ (d .call-next .ensures) _ (l .loop-test .taken) m) ∙ l .before .loop .inv .0, search needs)
 
 same-length-2 : tie.Need-same-length-2 Inv-loop μ-loop
 same-length-2 c = search needs
 
 returns-2 : tie.Need-returns-2 Inv-loop μ-loop
-returns-2 c = sym (drained-none _ _ _ _ (omega arith)) ∙ c .before .loop .inv .0
+returns-2 c = sym (drained-none _ _ _ _ _ (omega arith)) ∙ c .before .loop .inv .0
 
 pub drain-spec : {M : Type 1} → statement M
 drain-spec =

@@ -7,9 +7,6 @@ use Rattle.test_signal.proofs.reading.give.Tie as tie
 slot-requires : tie.Need-slot-requires
 slot-requires c κs = search needs
 
-refusal-requires : tie.Need-refusal-requires
-refusal-requires c κs = search needs
-
 drain-requires : tie.Need-drain-requires
 drain-requires c κs = search needs
 
@@ -22,10 +19,10 @@ same-length-2 c = search needs
 returns : tie.Need-returns
 returns c =
     let d = c .before .before in
-    let s = d .before .before .before .before .before .before .before .before in
-    slot-given _ _ _ _ _ _ _ _ (s .slot .ensures) (d .drain .ensures)
+    let s = d .before .before .before .before .before .before .before in
+    slot-given _ _ _ _ _ _ _ _ _ (s .slot .ensures) (d .drain .ensures)
 
 pub give-spec : {M : Type 1} → statement M
 give-spec =
     tie.close
-    (tie.spec slot-requires refusal-requires drain-requires same-length same-length-2 returns)
+    (tie.spec slot-requires drain-requires same-length same-length-2 returns)

@@ -11,7 +11,7 @@ use Rattle.test_signal.proofs.reading.read.Tie as tie
 abbrev Inv-loop : tie.InvT-loop
 Inv-loop source signal packet₀ collecting₀ reading₀ i₀ packet collecting reading i =
     (i ≤ 15)
-    × ((reading, packet, collecting) ≡ slotsGiven signal i (reading₀, packet₀, collecting₀))
+    × ((reading, packet, collecting) ≡ slotsGiven source signal i (reading₀, packet₀, collecting₀))
     × (length packet ≡ length packet₀)
     × (length collecting ≡ length collecting₀)
 
@@ -41,7 +41,7 @@ loop-again : tie.Need-loop-again Inv-loop μ-loop
 loop-again c =
     let t = c .before .before .before .before in
     let l = t .before .before .before .before .loop in
-    (search needs, slots-one _ _ _ _ _ (l .inv .1) (t .take-slot .ensures), search needs, search needs)
+    (search needs, slots-one _ _ _ _ _ _ (l .inv .1) (t .take-slot .ensures), search needs, search needs)
 
 same-length : tie.Need-same-length Inv-loop μ-loop
 same-length c = search needs

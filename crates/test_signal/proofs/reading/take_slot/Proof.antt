@@ -29,9 +29,6 @@ slice-aggregate-cut-slot c = search needs
 cut-slot-requires : tie.Need-cut-slot-requires
 cut-slot-requires c κs = search needs
 
-refusal-requires : tie.Need-refusal-requires
-refusal-requires c κs = search needs
-
 slice-aggregate-give-2 : tie.Need-slice-aggregate-give-2
 slice-aggregate-give-2 c = search needs
 
@@ -48,7 +45,7 @@ returns-2 : tie.Need-returns-2
 unfolding frameSlot
 returns-2 c =
     let g = c .before .before .before .before in
-    let s = g .before .before .before .before .before .before in
+    let s = g .before .before .before .before .before in
     rw (eq-eqb _ _ (s .before .before .if1 .left), ← s .cut-slot .ensures) (g .give2 .ensures)
 
 pub take-slot-spec : {M : Type 1} → statement M
@@ -62,7 +59,6 @@ take-slot-spec =
     returns
     slice-aggregate-cut-slot
     cut-slot-requires
-    refusal-requires
     slice-aggregate-give-2
     give-requires-2
     same-length-3

@@ -10,9 +10,6 @@ slice-aggregate-cut-slot c = search needs
 cut-slot-requires : tie.Need-cut-slot-requires
 cut-slot-requires c κs = search needs
 
-refusal-requires : tie.Need-refusal-requires
-refusal-requires c κs = search needs
-
 mul-write16 : tie.Need-mul-write16
 mul-write16 c = search needs
 
@@ -39,7 +36,7 @@ unfolding pointed
 returns c =
     let w = c .before .before in
     let v = w .before .before .before .before in
-    let s = v .before .before .before .before in
+    let s = v .before .before .before in
     rw (← s .cut-slot .ensures, w .write162 .ensures, v .write16 .ensures)
 
 pub point-spec : {M : Type 1} → statement M
@@ -48,7 +45,6 @@ point-spec =
     (tie.spec
     slice-aggregate-cut-slot
     cut-slot-requires
-    refusal-requires
     mul-write16
     add-write16
     write16-requires

@@ -27,12 +27,9 @@ part-pack-end c = search needs
 pack-requires : tie.Need-pack-requires
 pack-requires c κs = search needs
 
-refusal-requires : tie.Need-refusal-requires
-refusal-requires c κs = search needs
-
 add-write-null : tie.Need-add-write-null
 add-write-null c =
-    let k = c .before .before .before .before .before in
+    let k = c .before .before .before .before in
     let s = k .before .before .before .before .before .before .before in
     let f = simp (length-take, length-drop) at (pack-fits _ _ _ _ _ _ _ _ (k .pack .ensures)) in
     let n : length (s .args .run .now) < 18446744073709551616 = omega (arith, s .good) in
@@ -40,7 +37,7 @@ add-write-null c =
 
 write-null-requires : tie.Need-write-null-requires
 write-null-requires c κs =
-    let k = c .before .before .before .before .before in
+    let k = c .before .before .before .before in
     let f = simp (length-take, length-drop) at (pack-fits _ _ _ _ _ _ _ _ (k .pack .ensures)) in
     search needs
 
@@ -50,7 +47,7 @@ same-length c = search needs
 returns : tie.Need-returns
 returns c = (
   let n = c .before .before .before .before in
-      let k = n .before .before .before .before .before .before in
+      let k = n .before .before .before .before .before in
       let s = k .before .before .before in
       let a = s .before .before .before .before .args in
       let e = rw (s .part .ensures, s .before .unit-at .ensures) at (k .pack .ensures) in
@@ -68,7 +65,7 @@ same-length-2 c = search needs
 returns-2 : tie.Need-returns-2
 returns-2 c = (
   let n = c .before .before .before .before .before in
-      let k = n .before .before .before .before .before .before in
+      let k = n .before .before .before .before .before in
       let s = k .before .before .before in
       let a = s .before .before .before .before .args in
       let e = rw (s .part .ensures, s .before .unit-at .ensures) at (k .pack .ensures) in
@@ -87,7 +84,6 @@ write-unit-spec =
     part-pack-start
     part-pack-end
     pack-requires
-    refusal-requires
     add-write-null
     write-null-requires
     same-length

@@ -1,24 +1,25 @@
--- Why `fade` meets its contract: each turn leaves what the lost slots come to, and one slot less.
+-- Why `fade` meets its contract: each turn leaves what the lost slots come to, and one slot more.
 use Prim.Native.Nat.{_+_, _-_, _≤_}
-use mathlib.Core.Path.{_≡_, sym, _∙_}
+use mathlib.Core.Path.{_≡_, refl}
 use native.Mathlib.Omega.{arith}
-use lib.ListN.{length}
 use borrow.Author.Needs.{needs}
-use Rattle.worked_example.specs.Reading.{leaves, fadeOf, fade-none, fade-on}
+use lib.ListN.{length}
+use Rattle.worked_example.specs.Reading.{fadeOf, fade-one}
 use Rattle.worked_example.proofs.reading.fade.Statement.{statement}
 use Rattle.worked_example.proofs.reading.fade.Tie as tie
 
 abbrev Inv-loop : tie.InvT-loop
-Inv-loop packet collecting₀ reading₀ slot₀ collecting reading slot =
-    (slot ≤ 121)
-    × (leaves (fadeOf (121 - slot) slot reading packet collecting) ≡ leaves (fadeOf 119 2 reading₀ packet collecting₀))
-    × (length collecting ≡ length collecting₀)
+Inv-loop packet collecting₀ out₀ reading₀ slot₀ collecting out reading slot =
+    (2 ≤ slot) × (slot ≤ 121)
+    × ((reading, collecting, out) ≡ fadeOf (slot - 2) packet (reading₀, collecting₀, out₀))
+    × (length collecting ≡ length collecting₀) × (length out ≡ length out₀)
 
 abbrev μ-loop : tie.MeasureT-loop
-μ-loop packet collecting₀ reading₀ slot₀ collecting reading slot = 121 - slot
+μ-loop packet collecting₀ out₀ reading₀ slot₀ collecting out reading slot = 121 - slot
 
 loop-holds : tie.Need-loop-holds Inv-loop μ-loop
-loop-holds c = search needs
+unfolding fadeOf
+loop-holds c = (omega arith, omega arith, refl, refl, refl)
 
 lose-requires : tie.Need-lose-requires Inv-loop μ-loop
 lose-requires c κs = search needs
@@ -31,18 +32,27 @@ loop-less c = omega arith
 
 loop-again : tie.Need-loop-again Inv-loop μ-loop
 loop-again c =
-    let d = c .before .before in
-    let l = d .before .before .before .loop in
-    let e : 121 - l .slot ≡ 121 - (l .slot + 1) + 1 = omega arith in
-    (omega arith, sym (fade-on _ _ _ _ _ _ _ _ e (d .lose .ensures)) ∙ l .inv .1, search needs)
+    let d = c .before .before .before .before in
+    let l = d .before .before .before .before .loop in
+    let k : l .slot - 2 + 2 ≡ l .slot = omega arith in
+    let e : l .slot + 1 - 2 ≡ l .slot - 2 + 1 = omega arith in (
+      omega arith,
+      omega arith,
+      rw e (fade-one _ _ _ _ _ (l .inv .2) (rw k (d .lose .ensures))),
+      search needs,
+      search needs,
+    )
 
 same-length : tie.Need-same-length Inv-loop μ-loop
 same-length c = search needs
 
+same-length-2 : tie.Need-same-length-2 Inv-loop μ-loop
+same-length-2 c = search needs
+
 returns : tie.Need-returns Inv-loop μ-loop
 returns c =
-    let e : 121 - c .before .loop .slot ≤ 0 = omega arith in
-    sym (fade-none _ _ _ _ _ e) ∙ c .before .loop .inv .1
+    let e : c .before .loop .slot - 2 ≡ 119 = omega arith in
+    rw e at (c .before .loop .inv .2)
 
 pub fade-spec : {M : Type 1} → statement M
 fade-spec =
@@ -56,4 +66,5 @@ fade-spec =
     loop-less
     loop-again
     same-length
+    same-length-2
     returns)

@@ -1,0 +1,49 @@
+-- Why `count` meets its contract: by the event.
+use borrow.Author.Needs.{needs}
+use Rattle.worked_example.proofs.report.count.Statement.{statement}
+use Rattle.worked_example.proofs.report.count.Tie as tie
+
+enum-told : tie.Need-enum-told
+enum-told c = search needs
+
+enum-told-2 : tie.Need-enum-told-2
+enum-told-2 c = search needs
+
+wrapping-add-u64-requires : tie.Need-wrapping-add-u64-requires
+wrapping-add-u64-requires c κs = search needs
+
+enum-told-3 : tie.Need-enum-told-3
+enum-told-3 c = search needs
+
+wrapping-add-u64-requires-2 : tie.Need-wrapping-add-u64-requires-2
+wrapping-add-u64-requires-2 c κs = search needs
+
+enum-told-4 : tie.Need-enum-told-4
+enum-told-4 c = search needs
+
+returns : tie.Need-returns
+returns c = search needs
+
+returns-2 : tie.Need-returns-2
+returns-2 c = rw (c .wrapping-add-u64 .ensures, c .before .enum-told2 .given .1)
+
+returns-3 : tie.Need-returns-3
+returns-3 c = rw (c .wrapping-add-u642 .ensures, c .before .enum-told3 .given .1)
+
+returns-4 : tie.Need-returns-4
+returns-4 c = search needs
+
+pub count-spec : {M : Type 1} → statement M
+count-spec =
+    tie.close
+    (tie.spec
+    enum-told
+    enum-told-2
+    wrapping-add-u64-requires
+    enum-told-3
+    wrapping-add-u64-requires-2
+    enum-told-4
+    returns
+    returns-2
+    returns-3
+    returns-4)
