@@ -1,6 +1,6 @@
 -- All that a queue has yet to give, counted.
 use Prim.Native.Nat.{ℕ, zero, suc, _<_}
-use mathlib.Core.Path.{_≡_, refl, sym, _∙_, ap}
+use mathlib.Core.Path.{_≡_, refl, sym, _∙_, ap, subst}
 use mathlib.Core.Bool.{Bool, true, false, cond, true≢false}
 use mathlib.Core.List.{List}
 use native.Mathlib.Omega.{arith}
@@ -50,6 +50,19 @@ countedOf q p t = countedBy (suc (queueWaits q p)) q p t
 
 -- Laws.
 
+-- an empty queue has its packet_id alone
+pub empty-is : (q : Queue) → isEmpty q ≡ true → q ≡ emptied (q .«packet_id»)
+unfolding isEmpty
+empty-is q h = go (eqb (q .note) 0) (q .over) (q .give) refl refl refl h
+  where
+    go : (b o : Bool) (g : Give) → eqb (q .note) 0 ≡ b → q .over ≡ o → q .give ≡ g
+        → cond (eqb (q .note) 0) (cond (q .over) false (noUnit (q .give))) false ≡ true → q ≡ emptied (q .«packet_id»)
+    go true false Nothing n o g h = let m : q .note ≡ 0 = eqb-true _ _ n in rw (← m, ← o, ← g)
+    go true false (One x) n o g h = absurd (true≢false (sym (rw (n, o, g) at h)))
+    go true false (Many a) n o g h = absurd (true≢false (sym (rw (n, o, g) at h)))
+    go true true g n o x h = absurd (true≢false (sym (rw (n, o) at h)))
+    go false o g n x y h = absurd (true≢false (sym (rw n at h)))
+
 -- more events change nothing
 counted-same : (f g : ℕ) (q : Queue) (p : List ℕ) (t : Tally)
     → (isEvent (takenOf q p .event) ≡ true → let k = takenOf q p in
@@ -88,11 +101,13 @@ pub record Gives (q : Queue) (k : Taken) : Type 0 where
   pub none : isEvent (k .event) ≡ false → k .queue ≡ emptied (q .«packet_id»)
 
 module _ (q : Queue) (p : List ℕ) where
-  given-many : (a : Aggregate) (s : Step) → q .note ≡ 0 → q .over ≡ false → q .give ≡ Many a → nextUnit a p ≡ s → Gives q (takenOf q p)
+  given-many : (a : Aggregate) (s : Step) → q .note ≡ 0 → q .over ≡ false → q .give ≡ Many a → nextUnit a p ≡ s
+      → Gives q (takenOf q p)
   given-many a (UnitAt u) n o g e =
       rw (taken-many q p n o a g (UnitAt u) e) (record { line = λ h. refl; id = refl; none = λ h. absurd (true≢false h) })
   given-many a Malformed n o g e =
-      rw (taken-many q p n o a g Malformed e) (record { line = λ h. absurd (true≢false (sym h)); id = refl; none = λ h. rw (n, o) })
+      rw (taken-many q p n o a g Malformed e)
+      (record { line = λ h. absurd (true≢false (sym h)); id = refl; none = λ h. rw (n, o) })
   given-many a End n o g e =
       rw (taken-many q p n o a g End e) (record { line = λ h. absurd (true≢false (sym h)); id = refl; none = λ h. rw (n, o) })
 
@@ -136,20 +151,14 @@ counted-one n id g p t = go (eqb n 0) refl
         → countedOf (record { note = n; over = false; «packet_id» = id; give = One g }) p t
         ≡ withUnit (cond b t (withNote t)) (g .place .len)
     go true e =
-        ap (λ (m : ℕ). countedOf (record { note = m; over = false; «packet_id» = id; give = One g }) p t) (eqb-true n 0 e) ∙ unit t
+        ap (λ (m : ℕ). countedOf (record { note = m; over = false; «packet_id» = id; give = One g }) p t) (eqb-true n 0 e)
+        ∙ unit t
     go false e =
         let q : Queue = record { note = n; over = false; «packet_id» = id; give = One g } in
         let k = taken-note q p (eqb-false _ _ e) in
         counted-event q p t (rw k refl) ∙ rw k (unit (withNote t))
 
 pub counted-empty : (q : Queue) (p : List ℕ) (t : Tally) → isEmpty q ≡ true → countedOf q p t ≡ t
-unfolding isEmpty
-counted-empty q p t e = counted-none q p t (go (eqb (q .note) 0) (q .over) (q .give) refl refl refl e)
-  where
-    go : (b o : Bool) (g : Give) → eqb (q .note) 0 ≡ b → q .over ≡ o → q .give ≡ g
-        → cond (eqb (q .note) 0) (cond (q .over) false (noUnit (q .give))) false ≡ true → isEvent (takenOf q p .event) ≡ false
-    go true false Nothing n o g h = rw (taken-nothing q p (eqb-true _ _ n) o g) refl
-    go true false (One x) n o g h = absurd (true≢false (sym (rw (n, o, g) at h)))
-    go true false (Many a) n o g h = absurd (true≢false (sym (rw (n, o, g) at h)))
-    go true true g n o x h = absurd (true≢false (sym (rw (n, o) at h)))
-    go false o g n x y h = absurd (true≢false (sym (rw n at h)))
+counted-empty q p t e =
+    counted-none q p t
+    (subst (λ (x : Queue). isEvent (takenOf x p .event) ≡ false) (sym (empty-is q e)) (rw (taken-empty (q .«packet_id») p) refl))

@@ -1,7 +1,7 @@
 -- Calling next until nothing waits, packet by packet.
 use Prim.Native.Nat.{ℕ, zero, suc, _<_}
 use mathlib.Core.Path.{_≡_, refl, sym, _∙_, ap}
-use mathlib.Core.Bool.{Bool, true, false, true≢false, and-eq-true-iff}
+use mathlib.Core.Bool.{Bool, true, false, and-eq-true-iff}
 use mathlib.Core.List.{List}
 use native.Mathlib.Omega.{arith}
 use borrow.Author.Tests.{eqb-true, eqb-false}
@@ -84,20 +84,25 @@ counting n e = record { tally = tallied (n .tally) e; «packet_id» = n .«packe
 
 -- one call of next
 module _ (s : Session) (p c : List ℕ) (d : Drains s (length p) (length c)) where
-  drain-next : (o : Out) → readAll (s .state) p c ≡ o
-      → drainedOf s p c ≡ eventBy (o .0 .event) (withState s (o .0 .state)) (o .1) (λ t d. drainedOf t p d)
-  drain-next o e =
-      drain-step s p c
-      ∙ rw (d .owed, next-reads (s .state) p c (d .long) (and-eq-true-iff (isReading (s .phase)) (s .state .owed) .0 (d .owed) .1) ∙ e)
+  module _ (o : Out) (e : readAll (s .state) p c ≡ o) where
+    -- the session after its event
+    abbrev stepped : Session
+    stepped = withTally (withState s (o .0 .state)) (tallied (s .tally) (o .0 .event))
 
-  drain-line : (e : AnEvent) (st : State) → readAll (s .state) p c ≡ answered e st c → isLine e ≡ true
-      → endOf (drainedOf s p c) ≡ endOf (drainedOf (withTally (withState s st) (tallied (s .tally) e)) p c)
-  drain-line e st h i = ap endOf (drain-next _ h) ∙ rw i
+    drain-next : drainedOf s p c ≡ eventBy (o .0 .event) (withState s (o .0 .state)) (o .1) (λ t d. drainedOf t p d)
+    drain-next =
+        drain-step s p c
+        ∙ rw (
+          d .owed,
+          next-reads (s .state) p c (d .long)
+              (and-eq-true-iff (isReading (s .phase)) (s .state .owed) .0 (d .owed) .1) ∙ e,
+        )
 
-  drain-last : (st : State) → readAll (s .state) p c ≡ answered Nothing st c
-      → endOf (drainedOf s p c) ≡ (withState s (withOwed st false), c)
-  unfolding tallied closed
-  drain-last st h = ap endOf (drain-next _ h)
+    pub drain-line : isLine (o .0 .event) ≡ true → endOf (drainedOf s p c) ≡ endOf (drainedOf stepped p (o .1))
+    drain-line i = ap endOf drain-next ∙ rw i
+
+    pub drain-last : isLine (o .0 .event) ≡ false → endOf (drainedOf s p c) ≡ (closed stepped (o .0 .event), o .1)
+    drain-last i = ap endOf drain-next ∙ rw i
 
 -- states from which next reads the same come to the same
 drain-on : (s : Session) (p c : List ℕ) (st : State) (c' : List ℕ) → Drains s (length p) (length c)
@@ -179,7 +184,7 @@ module _ (s : Session) (p c : List ℕ) (d : Drains s (length p) (length c)) whe
   flush-event e h =
       let g = gives waiting p in
       let t = turn-event waiting (s .state .cursor) p e in
-      drain-line s p c d event (withQueue (s .state) (takenOf waiting p .queue))
+      drain-line s p c d (answered event (withQueue (s .state) (takenOf waiting p .queue)) c)
       (read-event (s .state) p c event (rw t refl) ∙ rw t refl) (g .line e) ∙ h
       ∙ rw (g .id, ← counted-event waiting p (s .tally) e)
 
@@ -202,12 +207,13 @@ flush-by (suc f) s p c d h =
     flush-by f (after s p c d) p c (record { owed = d .owed; long = d .long }) (omega arith))
   where
     flush-case : (b : Bool) → isEvent (event s p c d) ≡ b
-        → (isEvent (event s p c d) ≡ true → endOf (drainedOf (after s p c d) p c) ≡ endOf (drainedOf (flushed (after s p c d) p) p c))
+        → (isEvent (event s p c d) ≡ true → endOf (drainedOf (after s p c d) p c)
+        ≡ endOf (drainedOf (flushed (after s p c d) p) p c))
         → endOf (drainedOf s p c) ≡ endOf (drainedOf (flushed s p) p c)
     flush-case true e k = flush-event s p c d e (k e)
     flush-case false e k = flush-none s p c d e
 
-pub flush : (s : Session) (p c : List ℕ) → Drains s (length p) (length c)
+flush : (s : Session) (p c : List ℕ) → Drains s (length p) (length c)
     → endOf (drainedOf s p c) ≡ endOf (drainedOf (flushed s p) p c)
 flush s p c d = flush-by (suc (queueWaits (s .state .queue) p)) s p c d (omega arith)
 
@@ -253,7 +259,7 @@ module _ (s : Session) (st : State) (cur : Cursor) (n : Count) (p c : List ℕ)
   pub drained-event : (e : AnEvent) → advancedOf cur p .found ≡ Event e
       → endOf (drainedOf (onBy s st cur n) p c) ≡ endOf (drainedOf (onBy s st next (counting n e)) p c)
   drained-event e h =
-      drain-line (onBy s st cur n) p c d e (onBy s st next n .state) (read-event _ p c e (rw turn h) ∙ rw turn refl)
+      drain-line (onBy s st cur n) p c d (answered e (onBy s st next n .state) c) (read-event _ p c e (rw turn h) ∙ rw turn refl)
       (advanced-line cur p e h)
 
   pub drained-packet : (start end : ℕ) (a : Arrived) (r : Delivered) (c' : List ℕ) → advancedOf cur p .found ≡ Packet start end
@@ -275,7 +281,8 @@ module _ (s : Session) (st : State) (cur : Cursor) (n : Count) (p c : List ℕ)
       read-received (t .state) p c start end a (w .0) (w .1) (rw turn h) e (rw turn refl) ∙ rw turn refl in
       ap endOf (drain-on t p c x (w .1) d d' m) ∙ flush (withState t x) p (w .1) d'
       ∙ ap (λ (y : Delivered × List ℕ).
-      endOf (drainedOf (onBy s (withChannels st (set (st .channels) (placeOf a) (y .0 .channel))) next (y .0 .count)) p (y .1))) (sym k)
+      endOf (drainedOf (onBy s (withChannels st (set (st .channels) (placeOf a) (y .0 .channel))) next (y .0 .count)) p (y .1)))
+      (sym k)
 
   pub drained-tail : (start len : ℕ) → advancedOf cur p .found ≡ Tail start len
       → endOf (drainedOf (onBy s st cur n) p c)
@@ -285,5 +292,7 @@ module _ (s : Session) (st : State) (cur : Cursor) (n : Count) (p c : List ℕ)
       (record { owed = d .owed; long = d .long }) (read-tail _ p c start len (rw turn h) ∙ rw turn refl))
 
   pub drained-done : advancedOf cur p .found ≡ Done → endOf (drainedOf (onBy s st cur n) p c) ≡ (leftBy s st next n, c)
+  unfolding tallied closed
   drained-done h =
-      drain-last (onBy s st cur n) p c d (withOwed (onBy s st next n .state) false) (read-done _ p c (rw turn h) ∙ rw turn refl)
+      drain-last (onBy s st cur n) p c d (answered Nothing (withOwed (onBy s st next n .state) false) c)
+      (read-done _ p c (rw turn h) ∙ rw turn refl) refl

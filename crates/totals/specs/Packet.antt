@@ -1,39 +1,25 @@
 -- A packet delivered: joined to the state of its packet_id, and all that it gives counted.
 use Prim.Native.Nat.{ℕ, _+_, _-_}
-use mathlib.Core.Path.{_≡_, refl, _∙_, ap}
+use mathlib.Core.Path.{_≡_, _∙_, ap}
 use mathlib.Core.Bool.{Bool, true, false}
 use mathlib.Core.List.{List}
 use lib.ListN.{length}
-use Rattle.mmtp.specs.declared.payload.Indicator.{Indicator}
-use Rattle.mmtp.specs.declared.payload.Indicator.the-variants.{Whole, First, Middle, Last}
+use Rattle.mmtp.specs.declared.payload.Indicator.the-variants.{Whole}
 use Rattle.mmtp.specs.Unit.{fieldBytes, singleFits, singleUnit, singleAt}
 use Rattle.reassembly.specs.declared.channel.Channel.{Channel}
 use Rattle.reassembly.specs.Join.{heardWhole, joined-whole}
 use Rattle.delivery.specs.declared.queue.Queue.{Queue}
 use Rattle.delivery.specs.declared.packet.Located.{Located}
 use Rattle.delivery.specs.declared.packet.Arrived.{Arrived}
-use Rattle.delivery.specs.declared.packet.Arrived.the-variants.{Silent, Noted, Good}
+use Rattle.delivery.specs.declared.packet.Arrived.the-variants.{Good}
 use Rattle.delivery.specs.declared.packet.JoinedPacket.{JoinedPacket}
-use Rattle.delivery.specs.Within.{length-received}
 use Rattle.delivery.specs.Packet.{bytesAt, firstUnit, unitIn, unitLen, pieceFrom}
-use Rattle.delivery.specs.Packet.{Fits, wholesOf, giveOf, collected, receivedOf, joined-by}
+use Rattle.delivery.specs.Packet.{wholesOf, giveOf, collected, receivedOf, joined-by}
 use Rattle.capture.specs.declared.session.Tally.{Tally}
 use Rattle.capture.specs.Session.{withUnit}
 use Rattle.totals.specs.declared.count.Count.{Count}
 use Rattle.totals.specs.declared.packet.Delivered.{Delivered}
 use Rattle.totals.specs.Count.{emptied, notedBy, countedOf, counted-one}
-
-abbrev pub isFirstAndLast : Indicator → Bool
-isFirstAndLast Whole = true
-isFirstAndLast First = false
-isFirstAndLast Middle = false
-isFirstAndLast Last = false
-
--- a good packet FI 00
-abbrev pub isWhole : Arrived → Bool
-isWhole Silent = false
-isWhole (Noted n id) = false
-isWhole (Good l) = isFirstAndLast (l .packet .payload .indicator)
 
 -- what a packet FI 00 with this note has yet to give
 abbrev pub wholeQueue : Located → ℕ → List ℕ → Queue
@@ -56,19 +42,10 @@ deliveredBy r p n =
 unfoldable pub deliveredOf : Arrived → Channel → List ℕ → List ℕ → ℕ → Count → Delivered × List ℕ
 deliveredOf a ch p c limit n = deliveredBy (receivedOf a ch (emptied (n .«packet_id»)) p c limit) p n
 
--- what a packet FI 00 leaves, whatever collecting memory holds
-abbrev pub WholeDelivered : Arrived → Channel → List ℕ → Count → Delivered → Type 0
-WholeDelivered a ch p n r = (c : List ℕ) (limit : ℕ) → (r, c) ≡ deliveredOf a ch p c limit n
-
 -- Laws.
 
-whole-indicator : (i : Indicator) → isFirstAndLast i ≡ true → i ≡ Whole
-whole-indicator Whole e = refl
-whole-indicator First e = cc
-whole-indicator Middle e = cc
-whole-indicator Last e = cc
-
-pub delivered-whole : (l : Located) (ch : Channel) (p c : List ℕ) (limit : ℕ) (n : Count) → isWhole (Good l) ≡ true
+pub delivered-whole : (l : Located) (ch : Channel) (p c : List ℕ) (limit : ℕ) (n : Count)
+    → l .packet .payload .indicator ≡ Whole
     → let h = heardWhole ch (l .packet .psn) in
     deliveredOf (Good l) ch p c limit n
     ≡ (
@@ -81,7 +58,7 @@ pub delivered-whole : (l : Located) (ch : Channel) (p c : List ℕ) (limit : ℕ
 unfolding deliveredOf receivedOf giveOf collected
 delivered-whole l ch p c limit n e =
     ap (λ (r : JoinedPacket × List ℕ). deliveredBy r p n)
-    (joined-by ch l p c limit _ (joined-whole ch (pieceFrom (l .packet) (unitIn l p)) limit (whole-indicator _ e)))
+    (joined-by ch l p c limit _ (joined-whole ch (pieceFrom (l .packet) (unitIn l p)) limit e))
 
 -- the length of the data unit of a packet that is not aggregated
 module _ (l : Located) (p : List ℕ) (a : l .packet .payload .aggregated ≡ false) where
@@ -93,11 +70,7 @@ module _ (l : Located) (p : List ℕ) (a : l .packet .payload .aggregated ≡ fa
   unfolding firstUnit singleAt singleUnit
   unit-len-fits e = rw (a, e)
 
-  pub unit-len-none : fits ≡ false → unitLen (unitIn l p) ≡ 0
-  unfolding firstUnit singleAt
-  unit-len-none e = rw (a, e)
-
--- the units of a packet FI 00, aggregated or not
+-- the unit of a packet FI 00 that is not aggregated
 module _ (l : Located) (note : ℕ) (p : List ℕ) (t : Tally) where
   abbrev counted : Bool → Tally
   counted b =
@@ -110,14 +83,6 @@ module _ (l : Located) (note : ℕ) (p : List ℕ) (t : Tally) where
       })
       p t
 
-  pub counted-many : l .packet .payload .aggregated ≡ true → countedOf (wholeQueue l note p) p t ≡ counted true
-  counted-many e = ap counted e
-
   pub counted-single : l .packet .payload .aggregated ≡ false
       → countedOf (wholeQueue l note p) p t ≡ withUnit (notedBy note t) (unitLen (unitIn l p))
   counted-single e = ap counted e ∙ counted-one note _ _ p t
-
-pub length-delivered : (a : Arrived) (ch : Channel) (p c : List ℕ) (limit : ℕ) (n : Count) → Fits a limit (length c)
-    → length (deliveredOf a ch p c limit n .1) ≡ length c
-unfolding deliveredOf
-length-delivered a ch p c limit n h = length-received a ch (emptied (n .«packet_id»)) p c limit h

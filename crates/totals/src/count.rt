@@ -14,7 +14,7 @@ pub struct Count {
     pub packet_id: u16,
 }
 
-fn is_empty(q: Queue) -> bool
+pub fn is_empty(q: Queue) -> bool
     ensures { λ r. ⌜ r ≡ isEmpty q ⌝ }
 {
     if q.note != 0 {

@@ -3,4 +3,8 @@ pub mod count;
 pub mod drain;
 pub mod linkage;
 pub mod packet;
+pub mod quick;
 pub mod read;
+pub mod run;
+pub mod slot;
+pub mod slots;

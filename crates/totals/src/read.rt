@@ -5,6 +5,7 @@ ghost use Rattle.capture.specs.Session.{freshSession};
 ghost use Rattle.capture.specs.Capture.{reads};
 ghost use Rattle.totals.specs.Ends.{steppedOf, Ends, Totals};
 use crate::drain::drain;
+use crate::slots::read_slots;
 use capture::act::act;
 use capture::command::size;
 use capture::finish::begin;
@@ -52,7 +53,7 @@ fn step(session: Session, b: &[u8], packet: &mut [u8], collecting: &mut [u8]) ->
     Stepped { session, read: n }
 }
 
-// Command by command.
+// Command by command, but slots that follow each other at one go.
 fn read_with(capture: &[u8], packet: &mut [u8], collecting: &mut [u8]) -> Tally
     ensures { λ r. ⌜ Ends freshSession (now (packet .entry)) (now (collecting .entry)) (now (capture .entry)) r
         (now (packet .exit)) (now (collecting .exit)) ⌝ }
@@ -61,8 +62,10 @@ fn read_with(capture: &[u8], packet: &mut [u8], collecting: &mut [u8]) -> Tally
     let mut at = 0;
     while is_read(session, &capture[at..]) {
         let stepped = step(session, &capture[at..], packet, collecting);
-        session = stepped.session;
         at += stepped.read;
+        let slots = read_slots(stepped.session, &capture[at..], packet, collecting);
+        at += slots.read;
+        session = slots.session;
     }
     session.tally
 }

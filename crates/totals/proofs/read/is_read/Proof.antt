@@ -1,6 +1,11 @@
 -- Why `is_read` meets its contract: the command is whole, and the phase is not the last.
+use Prim.Native.Nat.{ℕ, _≤_}
+use mathlib.Core.Path.{_≡_}
+use mathlib.Core.Bool.{true}
+use mathlib.Core.List.{List}
+use lib.ListN.{length}
 use borrow.Author.Tests.{eq-eqb, ne-eqb, lt-leb, le-leb}
-use Rattle.capture.specs.Command.{whole}
+use Rattle.capture.specs.Command.{sizeOf, whole}
 use borrow.Author.Needs.{needs}
 use Rattle.totals.proofs.read.is_read.Statement.{statement}
 use Rattle.totals.proofs.read.is_read.Tie as tie
@@ -25,23 +30,25 @@ enum-told-2 c = search needs
 enum-told-3 : tie.Need-enum-told-3
 enum-told-3 c = search needs
 
-returns-3 : tie.Need-returns-3
+-- a command that has a size and is all there is whole
+is-whole : (b : List ℕ) (n : ℕ) → n ≡ sizeOf b → (n ≡ 0 → ⊥) → n ≤ length b → whole b ≡ true
 unfolding whole
+is-whole b n e h k = rw (← e, ne-eqb n 0 h, le-leb n (length b) k)
+
+returns-3 : tie.Need-returns-3
 returns-3 c =
     let w = c .before .before in
-    rw (← w .before .before .size .ensures .0, ne-eqb _ _ (w .before .if1 .left), le-leb _ _ (w .if2 .left), c .enum-told .given .1)
+    rw (is-whole _ _ (w .before .before .size .ensures .0) (w .before .if1 .left) (w .if2 .left), c .enum-told .given .1)
 
 returns-4 : tie.Need-returns-4
-unfolding whole
 returns-4 c =
     let w = c .before .before in
-    rw (← w .before .before .size .ensures .0, ne-eqb _ _ (w .before .if1 .left), le-leb _ _ (w .if2 .left), c .enum-told2 .given .1)
+    rw (is-whole _ _ (w .before .before .size .ensures .0) (w .before .if1 .left) (w .if2 .left), c .enum-told2 .given .1)
 
 returns-5 : tie.Need-returns-5
-unfolding whole
 returns-5 c =
     let w = c .before .before in
-    rw (← w .before .before .size .ensures .0, ne-eqb _ _ (w .before .if1 .left), le-leb _ _ (w .if2 .left), c .enum-told3 .given .1)
+    rw (is-whole _ _ (w .before .before .size .ensures .0) (w .before .if1 .left) (w .if2 .left), c .enum-told3 .given .1)
 
 pub is-read-spec : {M : Type 1} → statement M
 is-read-spec =

@@ -1,4 +1,4 @@
--- Why `read_with` meets its contract: each step leaves a session that ends as the capture does.
+-- Why `read_with` meets its contract: each step, with the slots behind it, leaves a session that ends as the capture does.
 use Prim.Native.Nat.{ℕ, _+_, _-_, _≤_}
 use mathlib.Core.Path.{_≡_, refl, sym, _∙_, ap}
 use mathlib.Core.Bool.{true, false, not, and-eq-true-iff}
@@ -14,6 +14,7 @@ use Rattle.capture.specs.Capture.{reads}
 use Rattle.capture.proofs.Texts.{whole-size}
 use Rattle.totals.specs.Drain.{drained-idle}
 use Rattle.totals.specs.Ends.{steppedOf, Ends, stops, ends-step}
+use Rattle.totals.specs.Onward.{Onward}
 use Rattle.totals.proofs.read.read_with.Statement.{statement}
 use Rattle.totals.proofs.read.read_with.Tie as tie
 
@@ -105,25 +106,76 @@ step-requires c κs = rw (rest _ _) (read (c .before .before .before))
 
 add-at : tie.Need-add-at Inv-loop μ-loop
 add-at c =
-    let m = c .before .before .before .before .before .before in
+    let m = c .before .before .before .before .before in
     let s = m .before .before .before .before .before .before .before .before .before .before .before .before in
     record { fits = omega (arith, within m, s .good .0) }
 
+-- the slots that follow
+slots : (n : tie.After-read-slots Inv-loop μ-loop) →
+    let m = n .before .before .before .before .before .before .before .before .before in
+    let l = m .before .before .before .before .before .before .before in
+    Onward (m .step .result .session) (m .step .last .1 .1 .0) (m .step .last .1 .1 .1 .0)
+    (drop (l .loop .at + m .step .result .read) (l .before .before .before .before .before .args .capture .now))
+    (n .read-slots .result)
+    (n .read-slots .last .1 .1 .0) (n .read-slots .last .1 .1 .1 .0)
+slots n =
+    let m = n .before .before .before .before .before .before .before .before .before in
+    let l = m .before .before .before .before .before .before .before in
+    rw (rest (l .before .before .before .before .before .args .capture .now) (l .loop .at + m .step .result .read)) at
+    (n .read-slots .ensures)
+
+-- no more are read than there are
+reach : (n : tie.After-read-slots Inv-loop μ-loop) →
+    let m = n .before .before .before .before .before .before .before .before .before in
+    let l = m .before .before .before .before .before .before .before in
+    l .loop .at + m .step .result .read + n .read-slots .result .read
+    ≤ length (l .before .before .before .before .before .args .capture .now)
+reach n =
+    let m = n .before .before .before .before .before .before .before .before .before in
+    let l = m .before .before .before .before .before .before .before in
+    let b = l .before .before .before .before .before .args .capture .now in
+    omega (arith, slots n .within, within m, length-drop (l .loop .at + m .step .result .read) b)
+
+sub-read-slots : tie.Need-sub-read-slots Inv-loop μ-loop
+sub-read-slots c = let w = within (c .before .before .before .before .before) in search needs
+
+part-read-slots-start : tie.Need-part-read-slots-start Inv-loop μ-loop
+part-read-slots-start c = let w = within (c .before .before .before .before .before) in search needs
+
+part-read-slots-end : tie.Need-part-read-slots-end Inv-loop μ-loop
+part-read-slots-end c = search needs
+
+read-slots-requires : tie.Need-read-slots-requires Inv-loop μ-loop
+read-slots-requires c κs = search needs
+
+add-at-2 : tie.Need-add-at-2 Inv-loop μ-loop
+add-at-2 c =
+    let n = c .before .before .before .before .before in
+    let m = n .before .before .before .before .before .before .before .before .before in
+    let s = m .before .before .before .before .before .before .before .before .before .before .before .before in
+    record { fits = omega (arith, reach n, s .good .0) }
+
 loop-less : tie.Need-loop-less Inv-loop μ-loop
 loop-less c =
-    let m = c .before .before .before .before .before .before in
-    omega (arith, within m)
+    let n = c .before .before .before .before .before .before in
+    let m = n .before .before .before .before .before .before .before .before .before in
+    omega (arith, within m, reach n)
 
 loop-again : tie.Need-loop-again Inv-loop μ-loop
 loop-again c =
-    let m = c .before .before .before .before .before .before in
+    let n = c .before .before .before .before .before .before in
+    let m = n .before .before .before .before .before .before .before .before .before in
     let l = m .before .before .before .before .before .before .before in
-    let b = l .before .before .before .before .before .args .capture .now in (
-      within m .1,
-      goes-on m (l .loop .session .tally) [] [] .0,
-      m .step .kept .1 .1 .0 ∙ l .loop .inv .2,
-      m .step .kept .1 .1 .1 .0 ∙ l .loop .inv .3,
-      λ t q e n. l .loop .inv .4 t q e (goes-on m t q e .2 (rw (drop-drop _ (l .loop .at) b, ← goes-on m t q e .1) n)),
+    let b = l .before .before .before .before .before .args .capture .now in
+    let o = slots n in (
+      reach n,
+      o .calm (goes-on m (l .loop .session .tally) [] [] .0),
+      n .read-slots .kept .1 .1 .0 ∙ m .step .kept .1 .1 .0 ∙ l .loop .inv .2,
+      n .read-slots .kept .1 .1 .1 .0 ∙ m .step .kept .1 .1 .1 .0 ∙ l .loop .inv .3,
+      λ t q e v. l .loop .inv .4 t q e
+          (goes-on m t q e .2
+          (rw (drop-drop _ (l .loop .at) b, ← goes-on m t q e .1)
+          (o .ends (rw (drop-drop _ (l .loop .at + m .step .result .read) b) v)))),
     )
 
 same-length : tie.Need-same-length Inv-loop μ-loop
@@ -156,6 +208,11 @@ read-with-spec =
     part-step-end
     step-requires
     add-at
+    sub-read-slots
+    part-read-slots-start
+    part-read-slots-end
+    read-slots-requires
+    add-at-2
     loop-less
     loop-again
     same-length

@@ -1,0 +1,297 @@
+// Slots, given or lost, one after the other, and next after each until nothing waits.
+ghost use mathlib.Core.Path.{_≡_};
+ghost use Prim.Native.Nat.{_≤_, _<_};
+ghost use lib.ListN.{length, drop};
+ghost use Rattle.capture.specs.Session.{isReading};
+ghost use Rattle.totals.specs.Runs.{tookOf};
+ghost use Rattle.totals.specs.Rest.{Rested, rests, begun, AtRest, leftOf};
+ghost use Rattle.totals.specs.Onward.{partsOf, Others, deliveredAt, Ready, Onward};
+use crate::count::is_empty;
+use crate::packet::Delivered;
+use crate::quick::Class;
+use crate::quick::classify;
+use crate::quick::deliver_message;
+use crate::quick::deliver_packet;
+use crate::read::Stepped;
+use crate::run::Run;
+use crate::run::Step;
+use crate::run::Turn;
+use crate::run::count_of;
+use crate::run::held_of;
+use crate::run::next_step;
+use crate::run::tally_of;
+use crate::run::with_count;
+use crate::run::with_intake;
+use crate::slot::take_slot;
+use capture::session::Phase;
+use capture::session::Session;
+use delivery::queue::Give;
+use delivery::queue::Queue;
+use intake::held::Cursor;
+use intake::held::Intake;
+use mmtp::table::Table;
+use mmtp::table::table_of;
+use reassembly::channel::Channel;
+use reassembly::config::Config;
+use receiver::slot::is_short;
+use receiver::state::Frame;
+use receiver::state::State;
+use tmcc::layout::Layout;
+use tmcc::layout::Pointers;
+
+fn is_reading(phase: Phase) -> bool
+    ensures { λ r. ⌜ r ≡ isReading phase ⌝ }
+{
+    match phase {
+        Phase::Before => false,
+        Phase::Reading => true,
+        Phase::Ended => false,
+    }
+}
+
+// Whether slots can be read one after the other: the session owes nothing, and nothing of an earlier slot is left.
+fn is_rested(session: Session, packet: usize, collecting: usize) -> bool
+    ensures { λ r. ⌜ r ≡ rests session packet collecting ⌝ }
+{
+    let phase = session.phase;
+    if !is_reading(phase) {
+        return false;
+    }
+    let state = session.state;
+    if state.owed {
+        return false;
+    }
+    let queue = state.queue;
+    if !is_empty(queue) {
+        return false;
+    }
+    let cursor = state.cursor;
+    if cursor.note != 0 {
+        return false;
+    }
+    if cursor.packet != 0 {
+        return false;
+    }
+    if cursor.reading {
+        return false;
+    }
+    if cursor.end != 0 {
+        return false;
+    }
+    let config = state.config;
+    !is_short(config, packet, collecting)
+}
+
+// A run from such a session.
+fn begin(session: Session) -> Run
+    ensures { λ r. ⌜ (r ≡ begun session) × (r .id < 65536) ⌝ }
+{
+    let state = session.state;
+    let frame = state.frame;
+    let queue = state.queue;
+    let tally = session.tally;
+    let blank = Run {
+        slot: frame.at,
+        read: 0,
+        note: 0,
+        packet: 0,
+        at: 0,
+        end: 0,
+        on: 0,
+        start: 0,
+        len: 0,
+        frames: tally.frames,
+        shown: tally.slot,
+        units: tally.units,
+        notes: tally.notes,
+        bytes: tally.bytes,
+        id: queue.packet_id as usize,
+        stop: 0,
+    };
+    let held = state.held;
+    let cursor = state.cursor;
+    with_intake(blank, Intake { held, cursor })
+}
+
+// The session that a run comes to, and how many bytes of commands it read.
+fn leave(session: Session, channels: [Channel; 16], r: Run) -> Stepped
+    requires { ⌜ AtRest r ⌝ }
+    ensures { λ s. ⌜ s ≡ leftOf session channels r ⌝ }
+{
+    let queue = Queue {
+        note: 0,
+        over: false,
+        packet_id: (r.id % 65536) as u16,
+        give: Give::Nothing,
+    };
+    let before = session.state;
+    let sent = before.frame;
+    let frame = Frame { at: r.slot, ..sent };
+    let cursor = Cursor {
+        note: 0,
+        packet: 0,
+        reading: false,
+        at: r.at,
+        end: 0,
+    };
+    let held = held_of(r);
+    let state = State {
+        frame,
+        owed: false,
+        held,
+        cursor,
+        queue,
+        channels,
+        ..before
+    };
+    let tally = tally_of(r);
+    let session = Session {
+        state,
+        tally,
+        ..session
+    };
+    Stepped {
+        session,
+        read: r.read,
+    }
+}
+
+// A session taken apart, so that the loop keeps each part in a local of its own.
+pub struct Parts {
+    pub session: Session,
+    pub config: Config,
+    pub layout: Layout,
+    pub table: Table,
+    pub channels: [Channel; 16],
+    pub run: Run,
+}
+
+fn parts_of(session: Session) -> Parts
+    ensures { λ r. ⌜ (r ≡ partsOf session) × (r .run .id < 65536) ⌝ }
+{
+    let state = session.state;
+    let config = state.config;
+    let frame = state.frame;
+    let layout = frame.layout;
+    let watch = config.watch;
+    let table = table_of(watch);
+    let channels = state.channels;
+    let run = begin(session);
+    Parts {
+        session,
+        config,
+        layout,
+        table,
+        channels,
+        run,
+    }
+}
+
+// A packet that is no whole message.
+fn deliver_other(
+    config: Config,
+    c: Class,
+    channel: Channel,
+    packet: &[u8],
+    collecting: &mut [u8],
+    step: Step,
+) -> Delivered
+    requires { ⌜ Others config c (now packet) (length (now collecting)) step ⌝ }
+    ensures { λ r. ⌜ (r, now (collecting .exit))
+        ≡ deliveredAt config channel (now (packet .entry)) (now (collecting .entry)) step ⌝ }
+{
+    let before = count_of(step.run);
+    deliver_packet(
+        config,
+        c,
+        channel,
+        packet,
+        collecting,
+        step.start,
+        step.end,
+        before,
+    )
+}
+
+// The slot that is due.
+pub struct Due {
+    pub length: u16,
+    pub own: bool,
+    pub pointers: Pointers,
+}
+
+fn slot_due(length: u16, own: bool, pointers: Pointers) -> Due
+    ensures { λ r. ⌜ r ≡ record { length = length; own = own; pointers = pointers } ⌝ }
+{
+    Due {
+        length,
+        own,
+        pointers,
+    }
+}
+
+fn take_due(r: Run, b: &[u8], due: Due, packet: &mut [u8], spare: &mut [u8]) -> Run
+    requires { ⌜ (r .slot < 120) × (r .read ≤ length (now b)) × (21433 ≤ length (now packet)) ⌝ }
+    ensures { λ s. ⌜ (s, now (packet .exit), now (spare .exit))
+        ≡ tookOf r (drop (r .read) (now (b .entry))) (due .length) (due .own) (due .pointers)
+        (now (packet .entry)) (now (spare .entry)) ⌝ }
+{
+    let t = due.pointers;
+    take_slot(r, b, due.length, due.own, t, packet, spare)
+}
+
+// Each turn delivers a packet, or takes a slot. A whole message changes two fields of its channel: it has a branch of its own, so
+// that no more than these are stored.
+fn read_run(parts: Parts, b: &[u8], packet: &mut [u8], collecting: &mut [u8]) -> Stepped
+    requires { ⌜ Ready parts (length (now packet)) (length (now collecting)) ⌝ }
+    ensures { λ r. ⌜ Onward (parts .session) (now (packet .entry)) (now (collecting .entry)) (now (b .entry)) r
+        (now (packet .exit)) (now (collecting .exit)) ⌝ }
+{
+    let layout = parts.layout;
+    let mut spare = [0u8; 5049];
+    let mut channels = parts.channels;
+    let mut run = parts.run;
+    loop {
+        let step = next_step(run, packet);
+        run = step.run;
+        let turn = step.turn;
+        match turn {
+            Turn::On => {}
+            Turn::Packet => {
+                let c = classify(parts.config, &parts.table, packet, step.start, step.end);
+                let k = c.place;
+                let channel = channels[k];
+                if c.message {
+                    let d = deliver_message(c, channel, count_of(run));
+                    let after = d.channel;
+                    channels[k] = after;
+                    run = with_count(run, d.count);
+                } else {
+                    let d = deliver_other(parts.config, c, channel, packet, collecting, step);
+                    let after = d.channel;
+                    channels[k] = after;
+                    run = with_count(run, d.count);
+                }
+            }
+            Turn::Slot => {
+                let slot = run.slot;
+                let t = layout.pointers[slot];
+                let due = slot_due(layout.lengths[slot], layout.own[slot], t);
+                run = take_due(run, b, due, packet, &mut spare);
+            }
+            Turn::End => return leave(parts.session, channels, run),
+        }
+    }
+}
+
+// As many slots as follow, where they can be read so; none else.
+pub fn read_slots(session: Session, b: &[u8], packet: &mut [u8], collecting: &mut [u8]) -> Stepped
+    ensures { λ r. ⌜ Onward session (now (packet .entry)) (now (collecting .entry)) (now (b .entry)) r
+        (now (packet .exit)) (now (collecting .exit)) ⌝ }
+{
+    if !is_rested(session, packet.len(), collecting.len()) {
+        return Stepped { session, read: 0 };
+    }
+    let parts = parts_of(session);
+    read_run(parts, b, packet, collecting)
+}
