@@ -54,6 +54,18 @@ all-below-false p k zero h e = absurd (not-suc-le-zero h)
 all-below-false p k (suc n) h e =
     below-one k n h (λ q. rw (← q, e) (and-false (allBelow p k))) (λ l. rw (all-below-false p k n l e))
 
+-- a count that is 0 was 0 one number before
+zero-before : (t : Bool) (n : ℕ) → cond t (n + 1) n ≡ 0 → n ≡ 0
+zero-before true n z = omega arith
+zero-before false n z = z
+
+-- so one number that passes keeps the count from 0
+pub count-below-true : (p : ℕ → Bool) (k n : ℕ) → k < n → p k ≡ true → countBelow p n ≡ 0 → ⊥
+unfolding countBelow
+count-below-true p k zero h e = absurd (not-suc-le-zero h)
+count-below-true p k (suc n) h e =
+    below-one k n h (λ q. rw (← q, e) (λ z. omega arith)) (λ l z. count-below-true p k n l e (zero-before (p n) _ z))
+
 pub length-tab : {A : Type 0} (f : ℕ → A) (n : ℕ) → length (tab f n) ≡ n
 unfolding tab
 length-tab f zero = refl

@@ -37,7 +37,7 @@ pub fn decode(block: &[u8], id: u16) -> Decoded
         return refused(13);
     }
     let own = streams.last;
-    if crate::stream::own_slots(block, own) == 0 {
+    if !crate::stream::has_own(block, own) {
         return refused(14);
     }
     let layout = crate::layout::of_block(block, own);

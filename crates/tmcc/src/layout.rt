@@ -48,8 +48,9 @@ pub fn of_block(block: &[u8], own: u8) -> Layout
     let mut s = 0;
     while s < 120 {
         pointers[s] = pointers_at(block, s);
-        lengths[s] = crate::mode::slot_length(block, s);
-        owns[s] = crate::stream::is_own(block, own, s);
+        let len = crate::mode::slot_length(block, s);
+        lengths[s] = len;
+        owns[s] = crate::stream::is_own_live(block, own, s, len);
         s += 1;
     }
     Layout {

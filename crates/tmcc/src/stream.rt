@@ -1,8 +1,11 @@
 // The relative streams: which one is chosen, and which slots are its own.
 ghost use mathlib.Core.Path.{_≡_};
+ghost use mathlib.Core.Bool.{not};
 ghost use Prim.Native.Nat.{_<_, _≤_};
 ghost use lib.ListN.{length};
+ghost use lib.Dec.{eqb};
 ghost use Rattle.tmcc.specs.Count.{countBelow};
+ghost use Rattle.tmcc.specs.Mode.{slotLength};
 ghost use Rattle.tmcc.specs.Stream.{chosen, streamsOf, relativeStream, ownSlot};
 use wire::field;
 
@@ -51,26 +54,33 @@ fn of_slot(block: &[u8], s: usize) -> u8
     }
 }
 
-// Whether slot `s` is live and of relative stream `own`.
-pub fn is_own(block: &[u8], own: u8, s: usize) -> bool
+// Whether slot `s`, whose data length is `len`, is live and of relative stream `own`.
+pub fn is_own_live(block: &[u8], own: u8, s: usize, len: u16) -> bool
+    requires { ⌜ (s < 120) × (length (now block) ≡ 1178) × (len ≡ slotLength (now block) s) ⌝ }
+    ensures { λ r. ⌜ r ≡ ownSlot (now (block .entry)) own s ⌝ }
+{
+    0 < len && of_slot(block, s) == own
+}
+
+// The same where the data length is not at hand.
+fn is_own(block: &[u8], own: u8, s: usize) -> bool
     requires { ⌜ (s < 120) × (length (now block) ≡ 1178) ⌝ }
     ensures { λ r. ⌜ r ≡ ownSlot (now (block .entry)) own s ⌝ }
 {
-    0 < crate::mode::slot_length(block, s) && of_slot(block, s) == own
+    is_own_live(block, own, s, crate::mode::slot_length(block, s))
 }
 
-// How many slots are live and of relative stream `own`.
-pub fn own_slots(block: &[u8], own: u8) -> usize
+// Whether some slot is live and of relative stream `own`: the first that is ends the loop.
+pub fn has_own(block: &[u8], own: u8) -> bool
     requires { ⌜ length (now block) ≡ 1178 ⌝ }
-    ensures { λ r. ⌜ r ≡ countBelow (ownSlot (now (block .entry)) own) 120 ⌝ }
+    ensures { λ r. ⌜ not r ≡ eqb (countBelow (ownSlot (now (block .entry)) own) 120) 0 ⌝ }
 {
-    let mut count = 0;
     let mut s = 0;
     while s < 120 {
         if is_own(block, own, s) {
-            count += 1;
+            return true;
         }
         s += 1;
     }
-    count
+    false
 }

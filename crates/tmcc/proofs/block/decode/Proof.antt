@@ -2,7 +2,7 @@
 use mathlib.Core.Path.{_≡_, sym, _∙_}
 use mathlib.Core.Bool.{true}
 use denote.Ref.{now}
-use borrow.Author.Tests.{not-true, not-false}
+use borrow.Author.Tests.{eqb-true, eqb-false, not-true, not-false}
 use Rattle.tmcc.specs.Mode.{modesGood}
 use Rattle.tmcc.specs.Block.{refused-length, refused-modes, refused-streams, refused-own, accepts}
 use borrow.Author.Needs.{needs}
@@ -43,8 +43,8 @@ returns-3 c =
     c .refused3 .ensures
     ∙ sym (refused-streams _ _ (e .before .before .if1 .left) (good e) (rw (d .find .ensures) at (c .before .if3 .taken)))
 
-own-slots-requires : tie.Need-own-slots-requires
-own-slots-requires c κs = search needs
+has-own-requires : tie.Need-has-own-requires
+has-own-requires c κs = search needs
 
 refused-requires-4 : tie.Need-refused-requires-4
 refused-requires-4 c κs = search needs
@@ -58,7 +58,7 @@ returns-4 c =
     c .refused4 .ensures
     ∙ sym
     (refused-own _ _ (e .before .before .if1 .left) (good e) (rw n at (o .before .if3 .left))
-    (rw n at (sym (o .own-slots .ensures) ∙ c .before .if4 .taken)))
+    (eqb-true _ _ (rw n at (sym (o .has-own .ensures) ∙ c .before .if4 .taken))))
 
 of-block-requires : tie.Need-of-block-requires
 of-block-requires c κs = search needs
@@ -76,7 +76,7 @@ returns-5 c =
       size = e .before .before .if1 .left;
       modes = good e;
       one = rw n at (o .before .if3 .left);
-      some = λ z. c .before .if4 .left (o .own-slots .ensures ∙ rw n z);
+      some = eqb-false _ _ (rw n at (sym (o .has-own .ensures) ∙ c .before .if4 .left));
     }))
 
 pub decode-spec : {M : Type 1} → statement M
@@ -91,7 +91,7 @@ decode-spec =
     find-requires
     refused-requires-3
     returns-3
-    own-slots-requires
+    has-own-requires
     refused-requires-4
     returns-4
     of-block-requires

@@ -41,8 +41,9 @@ mul-lengths c = omega arith
 array-write-lengths : tie.Need-array-write-lengths Inv-loop μ-loop
 array-write-lengths c = omega arith
 
-is-own-requires : tie.Need-is-own-requires Inv-loop μ-loop
-is-own-requires c κs = (c .before .before .loop-test .taken, c .before .before .before .before .before .pre)
+is-own-live-requires : tie.Need-is-own-live-requires Inv-loop μ-loop
+is-own-live-requires c κs =
+    (c .before .before .loop-test .taken, c .before .before .before .before .before .pre, c .slot-length .ensures)
 
 array-write-owns : tie.Need-array-write-owns Inv-loop μ-loop
 array-write-owns c = omega arith
@@ -62,7 +63,7 @@ loop-again c =
       simp length-set (omega arith),
       tab-turn _ _ _ _ (omega arith) (l .inv .4) (c .before .before .pointers-at .ensures),
       tab-turn _ _ _ _ (omega arith) (l .inv .5) (c .before .slot-length .ensures),
-      tab-turn _ _ _ _ (omega arith) (l .inv .6) (c .is-own .ensures),
+      tab-turn _ _ _ _ (omega arith) (l .inv .6) (c .is-own-live .ensures),
     )
 
 returns : tie.Need-returns Inv-loop μ-loop
@@ -89,7 +90,7 @@ of-block-spec =
     slot-length-requires
     mul-lengths
     array-write-lengths
-    is-own-requires
+    is-own-live-requires
     array-write-owns
     add-s
     loop-less
