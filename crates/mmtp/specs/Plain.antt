@@ -1,10 +1,10 @@
 -- The packets of most of the flow, whole TLV packets: behind the shortest headers, and their two common payloads.
 use Prim.Native.Nat.{ℕ, _-_, _≤_, _<_}
-use mathlib.Core.Bool.{Bool, true, false, _&&_, and-eq-true-iff}
+use mathlib.Core.Bool.{Bool, true, false, cond, _&&_, and-eq-true-iff, true≢false}
 use mathlib.Core.List.{List}
-use mathlib.Core.Path.{_≡_, refl, _∙_}
+use mathlib.Core.Path.{_≡_, refl, sym, _∙_}
 use native.Mathlib.Omega.{arith}
-use borrow.Author.Tests.{leb-true, le-leb, eqb-true, ltb-true, lt-ltb}
+use borrow.Author.Tests.{leb-true, le-leb, eqb-true, ltb-true}
 use lib.ListN.{length, getD, drop, length-drop}
 use lib.Dec.{eqb, leb, ltb}
 use lib.Seq.{getD-drop}
@@ -13,7 +13,7 @@ use Rattle.wire.specs.Field.{be, be-drop}
 use Rattle.mmtp.specs.declared.flow.Flow.the-variants.{Mmtp}
 use Rattle.mmtp.specs.declared.header.Header.{Header}
 use Rattle.mmtp.specs.declared.header.HeaderRead.the-variants.{Good as GoodHead}
-use Rattle.mmtp.specs.declared.payload.Indicator.the-variants.{Whole, Middle}
+use Rattle.mmtp.specs.declared.payload.Indicator.the-variants.{Whole}
 use Rattle.mmtp.specs.declared.payload.FragmentType.the-variants.{Kind}
 use Rattle.mmtp.specs.declared.payload.Payload.{Payload}
 use Rattle.mmtp.specs.declared.payload.PayloadRead.the-variants.{Good as GoodBody}
@@ -54,12 +54,18 @@ messageOf p =
     leb 21 (length p)
     && (eqb (bitsAt 0 6 (getD p 8 0)) 2 && (ltb (getD p 19 0) 64 && eqb (bitsAt 0 1 (getD p 19 0)) 0))
 
--- payload type 0, the length of what follows, FT 2, timed, FI 10, A 0, counter not 0, and behind its header the fields
-unfoldable pub middleOf : List ℕ → Bool
-middleOf p =
+-- FT 2, timed, A 0 and FI 11 with counter 0, FI 01 or 10 with another
+unfoldable pub fragmentHead : ℕ → ℕ → Bool
+fragmentHead flags counter =
+    cond (eqb flags 0x2E) (eqb counter 0)
+    (cond (eqb flags 0x2A) (ltb 0 counter) (cond (eqb flags 0x2C) (ltb 0 counter) false))
+
+-- payload type 0, the length of what follows, such a head, and behind it the fields
+unfoldable pub fragmentOf : List ℕ → Bool
+fragmentOf p =
     leb 41 (length p)
     && (eqb (bitsAt 0 6 (getD p 8 0)) 0
-    && (eqb (be 2 p 19) (length p - 21) && (eqb (getD p 21 0) 0x2C && ltb 0 (getD p 22 0))))
+    && (eqb (be 2 p 19) (length p - 21) && fragmentHead (getD p 21 0) (getD p 22 0)))
 
 -- the header of such a packet
 abbrev pub plainHeader : List ℕ → Header
@@ -78,11 +84,11 @@ messagePayload p =
       start = 14;
     }
 
-abbrev pub middlePayload : List ℕ → Payload
-middlePayload p =
+abbrev pub fragmentPayload : List ℕ → Payload
+fragmentPayload p =
     record {
       kind = 2;
-      indicator = Middle;
+      indicator = indicatorOf (bitsAt 1 2 (getD p 21 0));
       counter = getD p 22 0;
       mpu = be 4 p 23;
       aggregated = false;
@@ -140,26 +146,39 @@ message-is p h =
       single = eqb-true _ _ (c .1);
     }
 
-pub record MiddlePiece (p : List ℕ) : Type 0 where
+pub record Head (flags counter : ℕ) : Type 0 where
+  pub kind : fragmentTypeOf (bitsAt 4 4 flags) (flag 3 flags) ≡ Kind 2
+  pub single : flag 0 flags ≡ false
+  pub counts : counterFits (indicatorOf (bitsAt 1 2 flags)) counter ≡ true
+
+head-is : (flags counter : ℕ) → fragmentHead flags counter ≡ true → Head flags counter
+unfolding fragmentHead fragmentTypeOf indicatorOf counterFits
+head-is flags counter h = go (eqb flags 0x2E) (eqb flags 0x2A) (eqb flags 0x2C) refl refl refl h
+  where
+    go : (x y z : Bool) → eqb flags 0x2E ≡ x → eqb flags 0x2A ≡ y → eqb flags 0x2C ≡ z
+        → cond x (eqb counter 0) (cond y (ltb 0 counter) (cond z (ltb 0 counter) false)) ≡ true → Head flags counter
+    go true y z e f g k = rw (eqb-true flags 0x2E e) (record { kind = refl; single = refl; counts = k })
+    go false true z e f g k = rw (eqb-true flags 0x2A f) (record { kind = refl; single = refl; counts = k })
+    go false false true e f g k = rw (eqb-true flags 0x2C g) (record { kind = refl; single = refl; counts = k })
+    go false false false e f g k = absurd (true≢false (sym k))
+
+pub record Fragment (p : List ℕ) : Type 0 where
   pub whole : 41 ≤ length p
   pub type : bitsAt 0 6 (getD p 8 0) ≡ 0
   pub follows : be 2 p 19 ≡ length p - 21
-  pub flags : getD p 21 0 ≡ 0x2C
-  pub counts : 0 < getD p 22 0
+  pub head : Head (getD p 21 0) (getD p 22 0)
 
-pub middle-is : (p : List ℕ) → middleOf p ≡ true → MiddlePiece p
-unfolding middleOf
-middle-is p h =
+pub fragment-is : (p : List ℕ) → fragmentOf p ≡ true → Fragment p
+unfolding fragmentOf
+fragment-is p h =
     let a = and-eq-true-iff (leb 41 (length p)) _ .0 h in
     let b = and-eq-true-iff (eqb (bitsAt 0 6 (getD p 8 0)) 0) _ .0 (a .1) in
     let c = and-eq-true-iff (eqb (be 2 p 19) (length p - 21)) _ .0 (b .1) in
-    let d = and-eq-true-iff (eqb (getD p 21 0) 0x2C) _ .0 (c .1) in
     record {
       whole = leb-true _ _ (a .0);
       type = eqb-true _ _ (b .0);
       follows = eqb-true _ _ (c .0);
-      flags = eqb-true _ _ (d .0);
-      counts = ltb-true _ _ (d .1);
+      head = head-is _ _ (c .1);
     }
 
 module _ (p : List ℕ) (cid : ℕ) (h : plainOf p cid ≡ true) where
@@ -214,27 +233,27 @@ module _ (p : List ℕ) where
       let u = units-single m (messagePayload p) refl ∙ le-leb 14 (length m) l in
       (d .whole, payload-good m 12 _ (messagePayload p) (message-parsed d) refl refl u)
 
-  middle-parsed : MiddlePiece p → parsedOf (drop 7 p) 12 (bitsAt 0 6 (getD p 8 0)) ≡ GoodBody (middlePayload p)
-  unfolding parsedOf indicatorOf fragmentTypeOf
-  middle-parsed d =
+  fragment-parsed : Fragment p → parsedOf (drop 7 p) 12 (bitsAt 0 6 (getD p 8 0)) ≡ GoodBody (fragmentPayload p)
+  unfolding parsedOf
+  fragment-parsed d =
       let m : List ℕ = drop 7 p in
       let l = length-drop 7 p in
-      let a : getD m 14 0 ≡ 0x2C = getD-drop 7 p 14 0 ∙ d .flags in
-      let b : getD (drop 12 m) 2 0 ≡ 0x2C = getD-drop 12 m 2 0 ∙ a in
+      let a : getD m 14 0 ≡ getD p 21 0 = getD-drop 7 p 14 0 in
+      let b : getD (drop 12 m) 2 0 ≡ getD p 21 0 = getD-drop 12 m 2 0 ∙ a in
       let c : getD (drop 12 m) 3 0 ≡ getD p 22 0 = getD-drop 12 m 3 0 ∙ getD-drop 7 p 15 0 in
       let q : be 4 (drop 12 m) 4 ≡ be 4 p 23 = be-drop 4 12 m 4 ∙ be-drop 4 7 p 16 in
       let e : be 2 m 12 ≡ length m - 12 - 2 = omega (arith, be-drop 2 7 p 12, d .follows, l) in
-      rw (d .type) (mpu-by m 12 (omega (arith, l, d .whole)) e (Kind 2) (rw a) ∙ rw (b, c, q))
+      rw (d .type) (mpu-by m 12 (omega (arith, l, d .whole)) e (Kind 2) (rw a (d .head .kind)) ∙ rw (b, c, q, d .head .single))
 
-  pub middle-payload : middleOf p ≡ true
-      → (41 ≤ length p) × (payloadOf (drop 7 p) 12 (bitsAt 0 6 (getD p 8 0)) ≡ GoodBody (middlePayload p))
-  unfolding counterFits aggregationFits singleFits fieldBytes
-  middle-payload h =
-      let d = middle-is p h in
+  pub fragment-payload : fragmentOf p ≡ true
+      → (41 ≤ length p) × (payloadOf (drop 7 p) 12 (bitsAt 0 6 (getD p 8 0)) ≡ GoodBody (fragmentPayload p))
+  unfolding aggregationFits singleFits fieldBytes
+  fragment-payload h =
+      let d = fragment-is p h in
       let m : List ℕ = drop 7 p in
       let l : 34 ≤ length m = omega (arith, length-drop 7 p, d .whole) in
-      let u = units-single m (middlePayload p) refl ∙ le-leb 34 (length m) l in
-      (d .whole, payload-good m 12 _ (middlePayload p) (middle-parsed d) (lt-ltb _ _ (d .counts)) refl u)
+      let u = units-single m (fragmentPayload p) refl ∙ le-leb 34 (length m) l in
+      (d .whole, payload-good m 12 _ (fragmentPayload p) (fragment-parsed d) (d .head .counts) refl u)
 
 -- the packets themselves, where their packet_id is watched
 module _ (p : List ℕ) (cid : ℕ) (h : plainOf p cid ≡ true) where
@@ -247,6 +266,6 @@ module _ (p : List ℕ) (cid : ℕ) (h : plainOf p cid ≡ true) where
       → readingOf (drop 7 p) w ≡ Good (plainPacket p k (messagePayload p))
   plain-message g w k l = body-good w k _ (message-payload p g .1) l
 
-  pub plain-middle : middleOf p ≡ true → (w : Watch) (k : ℕ) → lookupOf w (be 2 p 9) ≡ At k
-      → readingOf (drop 7 p) w ≡ Good (plainPacket p k (middlePayload p))
-  plain-middle g w k l = body-good w k _ (middle-payload p g .1) l
+  pub plain-fragment : fragmentOf p ≡ true → (w : Watch) (k : ℕ) → lookupOf w (be 2 p 9) ≡ At k
+      → readingOf (drop 7 p) w ≡ Good (plainPacket p k (fragmentPayload p))
+  plain-fragment g w k l = body-good w k _ (fragment-payload p g .1) l

@@ -38,7 +38,7 @@ pub enum PayloadRead {
     Good(Payload),
 }
 
-fn indicator_of(bits: u8) -> Indicator
+pub fn indicator_of(bits: u8) -> Indicator
     ensures { λ r. ⌜ r ≡ indicatorOf bits ⌝ }
 {
     match bits {

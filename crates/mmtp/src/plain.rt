@@ -1,6 +1,10 @@
 // The packets of most of the flow, recognised at one go: behind the shortest headers, and their two common payloads.
 ghost use mathlib.Core.Path.{_≡_};
-ghost use Rattle.mmtp.specs.Plain.{plainOf, messageOf, middleOf};
+ghost use Prim.Native.Nat.{_≤_};
+ghost use lib.ListN.{length};
+ghost use Rattle.mmtp.specs.Plain.{plainOf, messageOf, fragmentHead, fragmentOf, fragmentPayload};
+use crate::payload::Payload;
+use crate::payload::indicator_of;
 use wire::field;
 
 // A TLV packet of the flow: header type 0x61, version and FEC 0, no counter, no extension; its payload from byte 19.
@@ -43,9 +47,25 @@ pub fn is_message(packet: &[u8]) -> bool
     flags & 1 == 0
 }
 
-// A piece of a timed MFU from the middle of its unit, behind these headers: its length right, its fields there.
-pub fn is_middle(packet: &[u8]) -> bool
-    ensures { λ r. ⌜ r ≡ middleOf (now (packet .entry)) ⌝ }
+// A timed MFU's piece, not aggregated: its counter beside its FI.
+fn is_fragment_head(flags: u8, counter: u8) -> bool
+    ensures { λ r. ⌜ r ≡ fragmentHead flags counter ⌝ }
+{
+    if flags == 0x2E {
+        return counter == 0;
+    }
+    if flags == 0x2A {
+        return 0 < counter;
+    }
+    if flags == 0x2C {
+        return 0 < counter;
+    }
+    false
+}
+
+// A piece of a timed MFU, first, middle or last, behind these headers: its length right, its fields there.
+pub fn is_fragment(packet: &[u8]) -> bool
+    ensures { λ r. ⌜ r ≡ fragmentOf (now (packet .entry)) ⌝ }
 {
     let len = packet.len();
     if len < 41 {
@@ -57,8 +77,22 @@ pub fn is_middle(packet: &[u8]) -> bool
     if field::read16(packet, 19) as usize != len - 21 {
         return false;
     }
-    if packet[21] != 0x2C {
-        return false;
+    is_fragment_head(packet[21], packet[22])
+}
+
+// Its payload, without the tests that found it to be one.
+pub fn fragment_payload(packet: &[u8]) -> Payload
+    requires { ⌜ 41 ≤ length (now packet) ⌝ }
+    ensures { λ r. ⌜ r ≡ fragmentPayload (now (packet .entry)) ⌝ }
+{
+    let indicator = indicator_of(packet[21] >> 1 & 3);
+    Payload {
+        kind: 2,
+        indicator,
+        counter: packet[22],
+        mpu: field::read32(packet, 23),
+        aggregated: false,
+        wide: false,
+        start: 20,
     }
-    0 < packet[22]
 }

@@ -187,6 +187,30 @@ module _ (ch : Channel) (p : Piece) (limit : ℕ) where
       let o = open-phase (ch .phase) (b .0) in
       rw (o, a .0, i) (extended-on (recorded ch p) p limit false (d .0) (e .0) (leb-true _ _ (e .1)))
 
+abbrev pub isWaiting : Phase → Bool
+isWaiting Unheard = false
+isWaiting Waiting = true
+isWaiting Idle = false
+isWaiting Open = false
+
+waiting-phase : (p : Phase) → isWaiting p ≡ true → p ≡ Waiting
+waiting-phase Unheard e = cc
+waiting-phase Waiting e = refl
+waiting-phase Idle e = cc
+waiting-phase Open e = cc
+
+-- FI 10 that is passed over: its unit's beginning is missing, and no packet since
+unfoldable pub passesOver : Channel → Psn → Bool
+passesOver ch psn = eqb (psn .0) (nextPsn (ch .last) .0) && isWaiting (ch .phase)
+
+-- that is its step
+pub joined-over : (ch : Channel) (p : Piece) (limit : ℕ) → passesOver ch (p .unit .psn) ≡ true → p .indicator ≡ Middle
+    → joinOf ch p limit ≡ record { channel = recorded ch p; note = 0; over = false; action = Nothing }
+unfolding passesOver joinOf acted followed gap heard
+joined-over ch p limit h i =
+    let a = and-eq-true-iff (eqb (p .unit .psn .0) (nextPsn (ch .last) .0)) _ .0 h in
+    rw (waiting-phase (ch .phase) (a .1), a .0, i)
+
 -- the notes of a step, in order
 unfoldable pub notesOf : Joined → List ℕ
 notesOf j = cond (eqb (j .note) 0) [] (j .note ∷ []) ++ cond (j .over) (64 ∷ []) []

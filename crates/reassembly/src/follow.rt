@@ -1,13 +1,14 @@
 // A piece that simply follows the open unit: most pieces of a long unit do.
 ghost use mathlib.Core.Path.{_≡_};
 ghost use Prim.Native.Nat.{_+_, _<_};
-ghost use Rattle.reassembly.specs.Join.{isOpen, followsOn, longer};
+ghost use Rattle.reassembly.specs.Join.{isOpen, followsOn, isWaiting, passesOver, longer};
 use crate::channel::Channel;
 use crate::channel::OpenUnit;
 use crate::channel::Phase;
 use crate::channel::next_psn;
 use crate::join::Piece;
 use crate::join::counter_follows;
+use mmtp::header::Psn;
 
 fn is_open(phase: Phase) -> bool
     ensures { λ r. ⌜ r ≡ isOpen phase ⌝ }
@@ -47,6 +48,30 @@ pub fn follows(ch: Channel, p: Piece, limit: usize) -> bool
         return false;
     }
     current.len <= limit - p.len
+}
+
+fn is_waiting(phase: Phase) -> bool
+    ensures { λ r. ⌜ r ≡ isWaiting phase ⌝ }
+{
+    match phase {
+        Phase::Unheard => false,
+        Phase::Waiting => true,
+        Phase::Idle => false,
+        Phase::Open => false,
+    }
+}
+
+// Whether FI 10 is passed over: then its step records the psn, and nothing else.
+pub fn passes_over(ch: Channel, psn: Psn) -> bool
+    ensures { λ r. ⌜ r ≡ passesOver ch psn ⌝ }
+{
+    let last = ch.last;
+    let next = next_psn(last);
+    if psn.0 != next.0 {
+        return false;
+    }
+    let phase = ch.phase;
+    is_waiting(phase)
 }
 
 // The channel with a piece behind its open unit.

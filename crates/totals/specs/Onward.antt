@@ -8,6 +8,7 @@ use borrow.Author.Tests.{eqb-true, eqb-false, ltb-true, ltb-false, ne-eqb, le-le
 use lib.ListN.{length, getD, set, take, drop, length-take, length-drop}
 use lib.Seq.{drop-drop}
 use lib.Dec.{eqb, ltb}
+use Rattle.wire.specs.Memory.{partOf, pasted}
 use Rattle.mmtp.specs.Table.{tableOf}
 use Rattle.reassembly.specs.declared.channel.Channel.{Channel}
 use Rattle.reassembly.specs.declared.config.Config.{Config}
@@ -42,7 +43,7 @@ use Rattle.totals.specs.declared.run.Turn.the-variants.{On, Packet as De
 use Rattle.totals.specs.declared.slots.Parts.{Parts}
 use Rattle.totals.specs.Packet.{deliveredOf}
 use Rattle.totals.specs.Drain.{endOf, onBy, drained-idle, drained-packet}
-use Rattle.totals.specs.Quick.{classOf}
+use Rattle.totals.specs.Quick.{classOf, pieceCount}
 use Rattle.totals.specs.Run.{heldOf, cursorOf, countOf, withCursor, withCount, turnAfter, stepBy, stepOf, cursor-past}
 use Rattle.totals.specs.Run.{cursor-intake, taken-cursor, taken-fit, lost-fit}
 use Rattle.totals.specs.Slots.{Open, slotDue}
@@ -73,6 +74,17 @@ pub record Ready (x : Parts) (packet collecting : ℕ) : Type 0 where
 -- what the packet that a turn comes to leaves, and collecting memory
 abbrev pub deliveredAt : Config → Channel → List ℕ → List ℕ → Step → Delivered × List ℕ
 deliveredAt c ch p l t = deliveredOf (arrivedAt c p (t .start) (t .end)) ch p l (c .limit) (countOf (t .run))
+
+-- its bytes
+abbrev pub bytesOf : List ℕ → Step → List ℕ
+bytesOf p t = partOf p (t .start) (t .end - t .start)
+
+-- a piece is stored behind the open unit: the run after it, and collecting memory
+abbrev pub collectedAt : Config → Class → Channel → List ℕ → List ℕ → Step → Run × List ℕ
+collectedAt c x ch p l t = (
+  withCount (t .run) (pieceCount x (countOf (t .run))),
+  pasted l (x .place * c .limit + ch .current .len) (drop 41 (bytesOf p t)) (length (bytesOf p t) - 41),
+)
 
 -- that packet, and room where its packet_id collects
 pub record Others (c : Config) (x : Class) (p : List ℕ) (collecting : ℕ) (t : Step) : Type 0 where

@@ -1,7 +1,10 @@
 // Totals of a capture in memory: its frames, units, notes and bytes of units, without its lines.
 pub mod count;
 pub mod drain;
+pub mod fragment;
+pub mod heard;
 pub mod linkage;
+pub mod other;
 pub mod packet;
 pub mod quick;
 pub mod read;

@@ -1,22 +1,22 @@
 // Slots, given or lost, one after the other, and next after each until nothing waits.
 ghost use mathlib.Core.Path.{_≡_};
-ghost use Prim.Native.Nat.{_≤_, _<_};
-ghost use lib.ListN.{length, drop};
+ghost use Prim.Native.Nat.{_<_};
+ghost use lib.ListN.{length};
 ghost use Rattle.capture.specs.Session.{isReading};
-ghost use Rattle.totals.specs.Runs.{tookOf};
 ghost use Rattle.totals.specs.Rest.{Rested, rests, begun, AtRest, leftOf};
-ghost use Rattle.totals.specs.Onward.{partsOf, Others, deliveredAt, Ready, Onward};
+ghost use Rattle.totals.specs.Onward.{partsOf, Ready, Onward};
 use crate::count::is_empty;
-use crate::packet::Delivered;
-use crate::quick::Class;
+use crate::fragment::collect;
+use crate::fragment::go_on;
+use crate::fragment::goes_on;
+use crate::heard::count_heard;
+use crate::heard::hear;
+use crate::heard::is_heard;
+use crate::other::deliver_other;
 use crate::quick::classify;
-use crate::quick::deliver_message;
-use crate::quick::deliver_packet;
 use crate::read::Stepped;
 use crate::run::Run;
-use crate::run::Step;
 use crate::run::Turn;
-use crate::run::count_of;
 use crate::run::held_of;
 use crate::run::next_step;
 use crate::run::tally_of;
@@ -37,7 +37,6 @@ use receiver::slot::is_short;
 use receiver::state::Frame;
 use receiver::state::State;
 use tmcc::layout::Layout;
-use tmcc::layout::Pointers;
 
 fn is_reading(phase: Phase) -> bool
     ensures { λ r. ⌜ r ≡ isReading phase ⌝ }
@@ -187,67 +186,14 @@ fn parts_of(session: Session) -> Parts
     }
 }
 
-// A packet that is no whole message.
-fn deliver_other(
-    config: Config,
-    c: Class,
-    channel: Channel,
-    packet: &[u8],
-    collecting: &mut [u8],
-    step: Step,
-) -> Delivered
-    requires { ⌜ Others config c (now packet) (length (now collecting)) step ⌝ }
-    ensures { λ r. ⌜ (r, now (collecting .exit))
-        ≡ deliveredAt config channel (now (packet .entry)) (now (collecting .entry)) step ⌝ }
-{
-    let before = count_of(step.run);
-    deliver_packet(
-        config,
-        c,
-        channel,
-        packet,
-        collecting,
-        step.start,
-        step.end,
-        before,
-    )
-}
-
-// The slot that is due.
-pub struct Due {
-    pub length: u16,
-    pub own: bool,
-    pub pointers: Pointers,
-}
-
-fn slot_due(length: u16, own: bool, pointers: Pointers) -> Due
-    ensures { λ r. ⌜ r ≡ record { length = length; own = own; pointers = pointers } ⌝ }
-{
-    Due {
-        length,
-        own,
-        pointers,
-    }
-}
-
-fn take_due(r: Run, b: &[u8], due: Due, packet: &mut [u8], spare: &mut [u8]) -> Run
-    requires { ⌜ (r .slot < 120) × (r .read ≤ length (now b)) × (21433 ≤ length (now packet)) ⌝ }
-    ensures { λ s. ⌜ (s, now (packet .exit), now (spare .exit))
-        ≡ tookOf r (drop (r .read) (now (b .entry))) (due .length) (due .own) (due .pointers)
-        (now (packet .entry)) (now (spare .entry)) ⌝ }
-{
-    let t = due.pointers;
-    take_slot(r, b, due.length, due.own, t, packet, spare)
-}
-
-// Each turn delivers a packet, or takes a slot. A whole message changes two fields of its channel: it has a branch of its own, so
-// that no more than these are stored.
+// Each turn delivers a packet, or takes a slot. Most packets change two or three fields of their channel: they have branches of
+// their own, so that no more than these are stored.
 fn read_run(parts: Parts, b: &[u8], packet: &mut [u8], collecting: &mut [u8]) -> Stepped
     requires { ⌜ Ready parts (length (now packet)) (length (now collecting)) ⌝ }
     ensures { λ r. ⌜ Onward (parts .session) (now (packet .entry)) (now (collecting .entry)) (now (b .entry)) r
         (now (packet .exit)) (now (collecting .exit)) ⌝ }
 {
-    let layout = parts.layout;
+    let sent = parts.layout;
     let mut spare = [0u8; 5049];
     let mut channels = parts.channels;
     let mut run = parts.run;
@@ -261,11 +207,12 @@ fn read_run(parts: Parts, b: &[u8], packet: &mut [u8], collecting: &mut [u8]) ->
                 let c = classify(parts.config, &parts.table, packet, step.start, step.end);
                 let k = c.place;
                 let channel = channels[k];
-                if c.message {
-                    let d = deliver_message(c, channel, count_of(run));
-                    let after = d.channel;
-                    channels[k] = after;
-                    run = with_count(run, d.count);
+                if is_heard(c, channel) {
+                    channels[k] = hear(c, channel);
+                    run = count_heard(run, c, channel);
+                } else if goes_on(parts.config, c, channel, packet, step) {
+                    channels[k] = go_on(parts.config, c, channel, packet, step);
+                    run = collect(parts.config, c, channel, packet, collecting, step);
                 } else {
                     let d = deliver_other(parts.config, c, channel, packet, collecting, step);
                     let after = d.channel;
@@ -274,10 +221,9 @@ fn read_run(parts: Parts, b: &[u8], packet: &mut [u8], collecting: &mut [u8]) ->
                 }
             }
             Turn::Slot => {
-                let slot = run.slot;
-                let t = layout.pointers[slot];
-                let due = slot_due(layout.lengths[slot], layout.own[slot], t);
-                run = take_due(run, b, due, packet, &mut spare);
+                let s = run.slot;
+                let t = sent.pointers[s];
+                run = take_slot(run, b, sent.lengths[s], sent.own[s], t, packet, &mut spare);
             }
             Turn::End => return leave(parts.session, channels, run),
         }

@@ -14,7 +14,7 @@ quick d = rw (d .quick-class .ensures, d .before .part .ensures, d .before .befo
 
 told : (d : tie.After-either) → let a = d .before .before .before .before .before .args in
     let q = quickClassOf (a .config) (partOf (a .packet .now) (a .start) (a .end - a .start)) in
-    (q .message || q .middle) ≡ d .either .result
+    (q .message || q .fragment) ≡ d .either .result
 told d = rw (d .either .ensures, quick (d .before))
 
 distance-requires : tie.Need-distance-requires

@@ -6,7 +6,7 @@ use native.Mathlib.Omega.{arith}
 use borrow.Author.Tests.{not-true, not-false}
 use lib.ListN.{length}
 use Rattle.mmtp.specs.declared.watch.Found.{Found}
-use Rattle.mmtp.specs.Plain.{plainOf, messageOf, middleOf, plain-length}
+use Rattle.mmtp.specs.Plain.{plainOf, messageOf, fragmentOf, plain-length, fragment-is}
 use Rattle.totals.specs.Quick.{quickClassOf, classBy, quick-class, quick-strange, quick-neither}
 use borrow.Author.Needs.{needs}
 use Rattle.totals.proofs.quick.quick_class.Statement.{statement}
@@ -19,8 +19,8 @@ long : (d : tie.Else1) → 19 ≤ length (d .before .before .before .args .b .no
 long d = plain-length _ _ (plain d)
 
 kind : (d : tie.After-either) → let b = d .before .before .before .before .before .before .args .b .now in
-    (messageOf b || middleOf b) ≡ d .either .result
-kind d = rw (d .either .ensures, d .before .is-middle .ensures, d .before .before .is-message .ensures)
+    (messageOf b || fragmentOf b) ≡ d .either .result
+kind d = rw (d .either .ensures, d .before .is-fragment .ensures, d .before .before .is-message .ensures)
 
 -- the packet_id is looked up
 looked : (l : tie.After-lookup-by) (f : Found) → l .lookup-by .result ≡ f
@@ -45,8 +45,8 @@ returns c =
 is-message-requires : tie.Need-is-message-requires
 is-message-requires c κs = search needs
 
-is-middle-requires : tie.Need-is-middle-requires
-is-middle-requires c κs = search needs
+is-fragment-requires : tie.Need-is-fragment-requires
+is-fragment-requires c κs = search needs
 
 either-requires : tie.Need-either-requires
 either-requires c κs = search needs
@@ -73,6 +73,11 @@ read32-requires : tie.Need-read32-requires
 read32-requires c κs =
     omega (arith, long (c .before .before .before .before .before .before .before .before .before .before))
 
+is-middle-requires : tie.Need-is-middle-requires
+is-middle-requires c κs h =
+    let m = c .before .before .before .before .before .before .before .before .before in
+    fragment-is _ (sym (m .is-fragment .ensures) ∙ h) .whole
+
 enum-told : tie.Need-enum-told
 enum-told c = search needs
 
@@ -81,11 +86,12 @@ other-requires-3 c κs = search needs
 
 returns-3 : tie.Need-returns-3
 returns-3 c =
-    let f = c .before .before in
+    let i = c .before in
+    let f = i .before .before in
     let l = f .before .before in
     let r = l .before .before in
     let m = r .before .before .before in
-    rw (c .read32 .ensures, r .read16 .ensures, m .is-middle .ensures, m .before .is-message .ensures)
+    rw (c .is-middle .ensures, i .read32 .ensures, r .read16 .ensures, m .is-fragment .ensures, m .before .is-message .ensures)
     (sym (looked l _ (f .found .given .1)))
 
 returns-4 : tie.Need-returns-4
@@ -99,7 +105,7 @@ quick-class-spec =
     other-requires
     returns
     is-message-requires
-    is-middle-requires
+    is-fragment-requires
     either-requires
     other-requires-2
     returns-2
@@ -107,6 +113,7 @@ quick-class-spec =
     lookup-by-requires
     enum-known-found
     read32-requires
+    is-middle-requires
     enum-told
     other-requires-3
     returns-3

@@ -1,7 +1,8 @@
 -- Why `read_run` meets its contract: each turn leaves a run from which the capture ends the same, with less left.
-use Prim.Native.Nat.{_*_, _<_, _≤_}
+use Prim.Native.Nat.{ℕ, _*_, _<_, _≤_}
 use mathlib.Core.Path.{_≡_, refl, sym, _∙_, ap, subst}
-use mathlib.Core.Bool.{false}
+use mathlib.Core.Bool.{true, false}
+use mathlib.Core.List.{List}
 use native.Mathlib.Omega.{arith}
 use borrow.Author.Needs.{needs}
 use lib.ListN.{length, getD, set, drop}
@@ -18,13 +19,12 @@ use Rattle.totals.specs.declared.run.Run.{Run}
 use Rattle.totals.specs.declared.run.Step.{Step}
 use Rattle.totals.specs.declared.run.Turn.the-variants.{On, Packet as Deliver, Slot, End}
 use Rattle.totals.specs.declared.slots.Parts.{Parts}
-use Rattle.totals.specs.Packet.{deliveredOf}
-use Rattle.totals.specs.Quick.{class-place, message-whole, message-delivered}
+use Rattle.totals.specs.Quick.{heardCount, pieceCount, goesOn, class-place, message-whole, heard-delivered, going-delivered}
 use Rattle.totals.specs.Run.{countOf, stepOf}
 use Rattle.totals.specs.Runs.{Took, tookOf, isPast}
 use Rattle.totals.specs.Rest.{begun}
 use Rattle.totals.specs.Onward.{Going, fuel, going-first, going-on, going-packet, going-slot, going-rest, going-end}
-use Rattle.totals.specs.Onward.{deliveredAt, going-id, past-same, slot-due-is, packet-long}
+use Rattle.totals.specs.Onward.{bytesOf, Others, deliveredAt, going-id, past-same, slot-due-is, packet-long}
 use Rattle.totals.proofs.slots.read_run.Statement.{statement}
 use Rattle.totals.proofs.slots.read_run.Tie as tie
 
@@ -119,109 +119,190 @@ mul-channel c = record { fits = omega (arith, below c) }
 array-copy-out-channel : tie.Need-array-copy-out-channel Inv-loop μ-loop
 array-copy-out-channel c = below c
 
-count-of-requires : tie.Need-count-of-requires Inv-loop μ-loop
-count-of-requires c κs =
-    let d = nextOf (c .before .before) in
-    going-id _ _ _ _ _ _ _ _ (d .before .before .loop .inv .0) _ (stepped d)
+is-heard-requires : tie.Need-is-heard-requires Inv-loop μ-loop
+is-heard-requires c κs = search needs
 
-deliver-message-requires : tie.Need-deliver-message-requires Inv-loop μ-loop
-deliver-message-requires c κs =
-    let k = c .before .before .before in
-    message-whole _ _ _ _ _ (sym (k .classify .ensures)) (c .before .if1 .taken)
-
-mul-channels : tie.Need-mul-channels Inv-loop μ-loop
-mul-channels c = record { fits = omega (arith, below (c .before .before .before .before .before)) }
-
-array-set-from-channels : tie.Need-array-set-from-channels Inv-loop μ-loop
-array-set-from-channels c = below (c .before .before .before .before .before)
-
-with-count-requires : tie.Need-with-count-requires Inv-loop μ-loop
-with-count-requires c κs = search needs
-
--- a whole message leaves a run that goes on
-message-on : (c : tie.After-with-count Inv-loop μ-loop) → let k = c .before .before .before .before .before .before in
-    let d = nextOf k in let l = d .before .before .loop in let a = startOf d in
-    let v = c .before .before .deliver-message .result in
-    Going (a .args .t1 .session) (a .args .packet .now) (a .args .collecting .now) (a .args .b .now) (l .packet) (l .collecting)
-    (set (l .channels) (k .classify .result .place) (v .channel)) (c .with-count .result)
-    × (fuel (a .args .b .now) (c .with-count .result) < fuel (a .args .b .now) (l .run))
-unfolding unheard
-message-on c =
-    let m = c .before .before in
-    let k = m .before .before .before .before in
+-- what the packet's delivery comes to, by the parts' configuration
+delivered-is : (k : tie.After-classify Inv-loop μ-loop) (v : Delivered) (q : List ℕ) → let d = nextOf k in
+    let l = d .before .before .loop in let x = d .next-step .result in
+    let h = getD (l .channels) (k .classify .result .place) unheard in
+    (v, q) ≡ deliveredAt (startOf d .args .t1 .config) h (l .packet) (l .collecting) x
+    → (v, q) ≡ deliveredAt (startOf d .args .t1 .session .state .config) h (l .packet) (l .collecting) x
+delivered-is k v q e =
     let d = nextOf k in
     let l = d .before .before .loop in
-    let x = d .next-step .result in
-    let v = m .deliver-message .result in
-    let s = startOf d .args .t1 .session .state .config in
-    let g = config-is (startOf d) in
-    let h : (v, l .collecting)
-    ≡ deliveredAt s (getD (l .channels) (k .classify .result .place) unheard) (l .packet) (l .collecting) x =
-    rw (m .deliver-message .ensures, m .before .count-of .ensures)
-    (message-delivered _ _ _ _ _ (sym (k .classify .ensures)) _ _ (m .before .before .if1 .taken) (l .collecting) (s .limit)
-    ∙ ap (λ (y : Config). deliveredOf (arrivedAt y (l .packet) (x .start) (x .end))
-    (getD (l .channels) (k .classify .result .place) unheard) (l .packet) (l .collecting) (s .limit) (countOf (x .run))) g) in
-    rw (c .with-count .ensures .0)
-    (going-packet _ _ _ _ _ _ _ _ (l .inv .0) x (stepped d) (comes k) _ (place-is k) v (l .collecting) h refl
-    (rw (c .with-count .ensures .0) at (c .with-count .ensures .1)))
+    e ∙ ap (λ (y : Config). deliveredAt y (getD (l .channels) (k .classify .result .place) unheard) (l .packet) (l .collecting)
+    (d .next-step .result)) (config-is (startOf d))
 
-loop-less-2 : tie.Need-loop-less-2 Inv-loop μ-loop
-loop-less-2 c = message-on c .1
-
-loop-again-2 : tie.Need-loop-again-2 Inv-loop μ-loop
-loop-again-2 c = (message-on c .0, nextOf (c .before .before .before .before .before .before) .before .before .loop .inv .1)
-
-deliver-other-requires : tie.Need-deliver-other-requires Inv-loop μ-loop
-deliver-other-requires c κs =
-    let k = c .before .before .before .before .before in
+-- a packet and its class, and room for it
+others : (k : tie.After-classify Inv-loop μ-loop) → let d = nextOf k in let l = d .before .before .loop in
+    Others (startOf d .args .t1 .config) (k .classify .result) (l .packet) (length (l .collecting)) (d .next-step .result)
+others k =
     let d = nextOf k in
     let l = d .before .before .loop in
-    let a = startOf d in
     record {
       class = k .classify .ensures;
       fits = arrived-fits _ _ _ _ _ _ refl
-          (subst (λ (y : Config). y .watch .n * y .limit ≤ length (l .collecting)) (sym (config-is a))
+          (subst (λ (y : Config). y .watch .n * y .limit ≤ length (l .collecting)) (sym (config-is (startOf d)))
           (short-room _ _ _ (l .inv .0 .drains .long)));
       id = going-id _ _ _ _ _ _ _ _ (l .inv .0) _ (stepped d);
     }
 
-mul-channels-2 : tie.Need-mul-channels-2 Inv-loop μ-loop
-mul-channels-2 c =
-    record { fits = omega (arith, below (c .before .before .before .before .before .before .before .before .before)) }
+hear-requires : tie.Need-hear-requires Inv-loop μ-loop
+hear-requires c κs = search needs
 
-array-set-from-channels-2 : tie.Need-array-set-from-channels-2 Inv-loop μ-loop
-array-set-from-channels-2 c = below (c .before .before .before .before .before .before .before .before .before)
+mul-channels : tie.Need-mul-channels Inv-loop μ-loop
+mul-channels c = record { fits = omega (arith, below (c .before .before .before .before)) }
 
-with-count-requires-2 : tie.Need-with-count-requires-2 Inv-loop μ-loop
-with-count-requires-2 c κs = search needs
+array-set-from-channels : tie.Need-array-set-from-channels Inv-loop μ-loop
+array-set-from-channels c = below (c .before .before .before .before)
 
--- and so does any other packet
-other-on : (c : tie.After-with-count2 Inv-loop μ-loop) → let o = c .before .before .before .before in
-    let k = o .before .before .before .before .before .before in
+count-heard-requires : tie.Need-count-heard-requires Inv-loop μ-loop
+count-heard-requires c κs =
+    let k = c .before .before .before .before in
+    (others k .id, message-whole _ _ _ _ _ (sym (k .classify .ensures)))
+
+-- a packet of which nothing is collected leaves a run that goes on
+heard-on : (c : tie.After-count-heard Inv-loop μ-loop) → let k = c .before .before .before .before .before in
     let d = nextOf k in let l = d .before .before .loop in let a = startOf d in
-    Going (a .args .t1 .session) (a .args .packet .now) (a .args .collecting .now) (a .args .b .now) (l .packet)
-    (o .deliver-other .last .1 .1 .1 .1 .0)
-    (set (l .channels) (k .classify .result .place) (o .deliver-other .result .channel)) (c .with-count2 .result)
-    × (fuel (a .args .b .now) (c .with-count2 .result) < fuel (a .args .b .now) (l .run))
+    Going (a .args .t1 .session) (a .args .packet .now) (a .args .collecting .now) (a .args .b .now) (l .packet) (l .collecting)
+    (set (l .channels) (k .classify .result .place) (c .before .hear .result)) (c .count-heard .result)
+    × (fuel (a .args .b .now) (c .count-heard .result) < fuel (a .args .b .now) (l .run))
 unfolding unheard
-other-on c =
-    let o = c .before .before .before .before in
-    let k = o .before .before .before .before .before .before in
+heard-on c =
+    let t = c .before .before in
+    let i = t .before in
+    let k = i .before .before in
     let d = nextOf k in
     let l = d .before .before .loop in
     let x = d .next-step .result in
-    let h = rw (config-is (startOf d)) at (o .deliver-other .ensures) in
-    rw (c .with-count2 .ensures .0)
-    (going-packet _ _ _ _ _ _ _ _ (l .inv .0) x (stepped d) (comes k) _ (place-is k) (o .deliver-other .result) _ h
-    (o .deliver-other .kept .1 .1 .1 .1 .0) (rw (c .with-count2 .ensures .0) at (c .with-count2 .ensures .1)))
+    let h = getD (l .channels) (k .classify .result .place) unheard in
+    let v : Delivered =
+    record { channel = c .before .hear .result; count = heardCount (k .classify .result) h (countOf (x .run)) } in
+    let e : (v, l .collecting) ≡ deliveredAt (startOf d .args .t1 .config) h (l .packet) (l .collecting) x =
+    rw (c .before .hear .ensures)
+    (heard-delivered _ _ _ _ _ (sym (k .classify .ensures)) _ _ _ _ (sym (i .is-heard .ensures) ∙ t .if1 .taken)) in
+    rw (c .count-heard .ensures .0)
+    (going-packet _ _ _ _ _ _ _ _ (l .inv .0) x (stepped d) (comes k) _ (place-is k) v (l .collecting)
+    (delivered-is k v (l .collecting) e) refl (rw (c .count-heard .ensures .0) at (c .count-heard .ensures .1)))
+
+loop-less-2 : tie.Need-loop-less-2 Inv-loop μ-loop
+loop-less-2 c = heard-on c .1
+
+loop-again-2 : tie.Need-loop-again-2 Inv-loop μ-loop
+loop-again-2 c = (heard-on c .0, nextOf (c .before .before .before .before .before) .before .before .loop .inv .1)
+
+goes-on-requires : tie.Need-goes-on-requires Inv-loop μ-loop
+goes-on-requires c κs = c .before .before .before .before .before .classify .ensures
+
+-- the piece goes on
+onward : (t : tie.Then2 Inv-loop μ-loop) → let g = t .before in
+    let k = g .before .before .before .before .before .before in let d = nextOf k in let l = d .before .before .loop in
+    goesOn (k .classify .result) (getD (l .channels) (k .classify .result .place) unheard)
+    (bytesOf (l .packet) (d .next-step .result)) (startOf d .args .t1 .config .limit)
+    ≡ true
+unfolding unheard
+onward t = sym (t .before .goes-on .ensures) ∙ t .if2 .taken
+
+go-on-requires : tie.Need-go-on-requires Inv-loop μ-loop
+unfolding unheard
+go-on-requires c κs =
+    let t = c .before .before in
+    (t .before .before .before .before .before .before .before .classify .ensures, onward t)
+
+mul-channels-2 : tie.Need-mul-channels-2 Inv-loop μ-loop
+mul-channels-2 c =
+    record { fits = omega (arith, below (c .before .before .before .before .before .before .before .before .before .before)) }
+
+array-set-from-channels-2 : tie.Need-array-set-from-channels-2 Inv-loop μ-loop
+array-set-from-channels-2 c = below (c .before .before .before .before .before .before .before .before .before .before)
+
+collect-requires : tie.Need-collect-requires Inv-loop μ-loop
+unfolding unheard
+collect-requires c κs =
+    let t = c .before .before .before .before .before .before in
+    (others (t .before .before .before .before .before .before .before), onward t)
+
+-- a piece that goes on leaves a run that goes on
+piece-on : (c : tie.After-slice-known3 Inv-loop μ-loop) → let o = c .before .before in
+    let w = o .before .before .before .before in
+    let k = w .before .before .before .before .before .before .before .before .before .before in
+    let d = nextOf k in let l = d .before .before .loop in let a = startOf d in
+    Going (a .args .t1 .session) (a .args .packet .now) (a .args .collecting .now) (a .args .b .now) (l .packet)
+    (o .collect .last .1 .1 .1 .1 .0)
+    (set (l .channels) (k .classify .result .place) (w .go-on .result)) (o .collect .result)
+    × (fuel (a .args .b .now) (o .collect .result) < fuel (a .args .b .now) (l .run))
+unfolding unheard
+piece-on c =
+    let o = c .before .before in
+    let w = o .before .before .before .before in
+    let t = w .before .before .before in
+    let k = t .before .before .before .before .before .before .before in
+    let d = nextOf k in
+    let l = d .before .before .loop in
+    let x = d .next-step .result in
+    let h = getD (l .channels) (k .classify .result .place) unheard in
+    let q = o .collect .last .1 .1 .1 .1 .0 in
+    let v : Delivered = record { channel = w .go-on .result; count = pieceCount (k .classify .result) (countOf (x .run)) } in
+    let f = ap (λ (y : Run × List ℕ). y .0) (o .collect .ensures .0) in
+    let g = ap (λ (y : Run × List ℕ). y .1) (o .collect .ensures .0) in
+    let e : (v, q) ≡ deliveredAt (startOf d .args .t1 .config) h (l .packet) (l .collecting) x =
+    rw (w .go-on .ensures, g)
+    (sym (going-delivered _ _ _ _ _ (sym (k .classify .ensures)) _ _ (onward t) (l .collecting) (countOf (x .run)))) in
+    rw f
+    (going-packet _ _ _ _ _ _ _ _ (l .inv .0) x (stepped d) (comes k) _ (place-is k) v q (delivered-is k v q e)
+    (o .collect .kept .1 .1 .1 .1 .0) (rw f at (o .collect .ensures .1)))
 
 loop-less-3 : tie.Need-loop-less-3 Inv-loop μ-loop
-loop-less-3 c = other-on c .1
+loop-less-3 c = piece-on c .1
 
 loop-again-3 : tie.Need-loop-again-3 Inv-loop μ-loop
 loop-again-3 c =
-    let n = nextOf (c .before .before .before .before .before .before .before .before .before .before) in
-    (other-on c .0, n .before .before .loop .inv .1)
+    let w = c .before .before .before .before .before .before in
+    let n = nextOf (w .before .before .before .before .before .before .before .before .before .before) in
+    (piece-on c .0, n .before .before .loop .inv .1)
+
+deliver-other-requires : tie.Need-deliver-other-requires Inv-loop μ-loop
+deliver-other-requires c κs = others (c .before .before .before .before .before .before .before .before .before .before)
+
+-- the packet's class, behind its delivery
+abbrev classOf-other : tie.After-deliver-other Inv-loop μ-loop → tie.After-classify Inv-loop μ-loop
+classOf-other o = o .before .before .before .before .before .before .before .before .before .before .before
+
+mul-channels-3 : tie.Need-mul-channels-3 Inv-loop μ-loop
+mul-channels-3 c = record { fits = omega (arith, below (classOf-other (c .before .before .before))) }
+
+array-set-from-channels-3 : tie.Need-array-set-from-channels-3 Inv-loop μ-loop
+array-set-from-channels-3 c = below (classOf-other (c .before .before .before))
+
+with-count-requires : tie.Need-with-count-requires Inv-loop μ-loop
+with-count-requires c κs = search needs
+
+-- and so does any other packet
+other-on : (c : tie.After-with-count Inv-loop μ-loop) → let o = c .before .before .before .before in
+    let k = classOf-other o in
+    let d = nextOf k in let l = d .before .before .loop in let a = startOf d in
+    Going (a .args .t1 .session) (a .args .packet .now) (a .args .collecting .now) (a .args .b .now) (l .packet)
+    (o .deliver-other .last .1 .1 .1 .1 .0)
+    (set (l .channels) (k .classify .result .place) (o .deliver-other .result .channel)) (c .with-count .result)
+    × (fuel (a .args .b .now) (c .with-count .result) < fuel (a .args .b .now) (l .run))
+unfolding unheard
+other-on c =
+    let o = c .before .before .before .before in
+    let k = classOf-other o in
+    let d = nextOf k in
+    let l = d .before .before .loop in
+    let x = d .next-step .result in
+    let h = delivered-is k _ _ (o .deliver-other .ensures) in
+    rw (c .with-count .ensures .0)
+    (going-packet _ _ _ _ _ _ _ _ (l .inv .0) x (stepped d) (comes k) _ (place-is k) (o .deliver-other .result) _ h
+    (o .deliver-other .kept .1 .1 .1 .1 .0) (rw (c .with-count .ensures .0) at (c .with-count .ensures .1)))
+
+loop-less-4 : tie.Need-loop-less-4 Inv-loop μ-loop
+loop-less-4 c = other-on c .1
+
+loop-again-4 : tie.Need-loop-again-4 Inv-loop μ-loop
+loop-again-4 c = (other-on c .0, nextOf (classOf-other (c .before .before .before .before)) .before .before .loop .inv .1)
 
 enum-told-3 : tie.Need-enum-told-3 Inv-loop μ-loop
 enum-told-3 c = search needs
@@ -240,26 +321,23 @@ mul-t c = record { fits = omega (arith, due-is c) }
 element-copy-out-t : tie.Need-element-copy-out-t Inv-loop μ-loop
 element-copy-out-t c = due-is c
 
-mul-slot-due : tie.Need-mul-slot-due Inv-loop μ-loop
-mul-slot-due c = record { fits = omega (arith, due-is (c .before)) }
+mul-take-slot : tie.Need-mul-take-slot Inv-loop μ-loop
+mul-take-slot c = record { fits = omega (arith, due-is (c .before)) }
 
-element-copy-out-slot-due : tie.Need-element-copy-out-slot-due Inv-loop μ-loop
-element-copy-out-slot-due c = due-is (c .before)
+element-copy-out-take-slot : tie.Need-element-copy-out-take-slot Inv-loop μ-loop
+element-copy-out-take-slot c = due-is (c .before)
 
-element-copy-out-slot-due-2 : tie.Need-element-copy-out-slot-due-2 Inv-loop μ-loop
-element-copy-out-slot-due-2 c = due-is (c .before .before)
+element-copy-out-take-slot-2 : tie.Need-element-copy-out-take-slot-2 Inv-loop μ-loop
+element-copy-out-take-slot-2 c = due-is (c .before .before)
 
-slot-due-requires : tie.Need-slot-due-requires Inv-loop μ-loop
-slot-due-requires c κs = search needs
-
-slice-aggregate-take-due : tie.Need-slice-aggregate-take-due Inv-loop μ-loop
-slice-aggregate-take-due c =
-    let h = c .before .before .before .before .before .before .before .before .before .before .before .loop .inv .1 in
+slice-aggregate-take-slot : tie.Need-slice-aggregate-take-slot Inv-loop μ-loop
+slice-aggregate-take-slot c =
+    let h = c .before .before .before .before .before .before .before .before .before .before .loop .inv .1 in
     search needs
 
-take-due-requires : tie.Need-take-due-requires Inv-loop μ-loop
-take-due-requires c κs =
-    let e = c .before .before .before .before .before .before in
+take-slot-requires : tie.Need-take-slot-requires Inv-loop μ-loop
+take-slot-requires c κs =
+    let e = c .before .before .before .before .before in
     let d = e .before .before .before in
     let l = d .before .before .loop in
     let t = e .enum-told3 .given .1 in (
@@ -269,43 +347,45 @@ take-due-requires c κs =
     )
 
 -- the slot takes its command, or no slot follows
+abbrev slotOf-taken : tie.After-take-slot Inv-loop μ-loop → tie.After-enum-told3 Inv-loop μ-loop
+slotOf-taken k = k .before .before .before .before .before .before
+
 slot-on : (c : tie.After-spare2 Inv-loop μ-loop) → let k = c .before .before .before in
-    let d = k .before .before .before .before .before .before .before .before .before .before in
+    let d = slotOf-taken k .before .before .before in
     let l = d .before .before .loop in let a = startOf d in
     Going (a .args .t1 .session) (a .args .packet .now) (a .args .collecting .now) (a .args .b .now)
-    (k .take-due .last .1 .1 .1 .0)
-    (l .collecting) (l .channels) (k .take-due .result)
-    × (fuel (a .args .b .now) (k .take-due .result) < fuel (a .args .b .now) (l .run))
+    (k .take-slot .last .1 .1 .1 .1 .1 .0)
+    (l .collecting) (l .channels) (k .take-slot .result)
+    × (fuel (a .args .b .now) (k .take-slot .result) < fuel (a .args .b .now) (l .run))
 slot-on c =
     let k = c .before .before .before in
-    let u = k .before .before .before in
-    let e = u .before .before .before .before in
+    let e = slotOf-taken k in
     let d = e .before .before .before in
     let l = d .before .before .loop in
     let a = startOf d in
     let x = d .next-step .result in
     let t = e .enum-told3 .given .1 in
     let b = a .args .b .now in
-    let sp = k .take-due .last .1 .1 .1 .1 .0 in
+    let sp = k .take-slot .last .1 .1 .1 .1 .1 .1 .0 in
     let took : Run → Layout → Took = λ y m.
     tookOf y (drop (y .read) b) (getD (m .lengths) (y .slot) 0) (getD (m .own) (y .slot) false)
     (getD (m .pointers) (y .slot) (record { 0 = 0; 1 = 0 })) (l .packet) (l .spare) in
-    let h : (k .take-due .result, k .take-due .last .1 .1 .1 .0, sp)
+    let h : (k .take-slot .result, k .take-slot .last .1 .1 .1 .1 .1 .0, sp)
     ≡ took (l .run) (a .args .t1 .session .state .frame .layout) =
-    rw (u .slot-due .ensures) at (k .take-due .ensures)
+    k .take-slot .ensures
     ∙ ap (λ (y : Run). took y (a .args .t1 .layout)) (past-same _ _ _ _ _ _ _ _ (l .inv .0) x (stepped d) (ap isPast t))
     ∙ ap (λ (y : Parts). took (l .run) (y .layout)) (a .pre .parts) in
-    going-slot _ _ _ _ _ _ _ _ (l .inv .0) x (stepped d) t (k .take-due .result, k .take-due .last .1 .1 .1 .0, sp) (l .spare) h
-    (k .take-due .kept .1 .1 .1 .0)
+    going-slot _ _ _ _ _ _ _ _ (l .inv .0) x (stepped d) t
+    (k .take-slot .result, k .take-slot .last .1 .1 .1 .1 .1 .0, sp) (l .spare) h (k .take-slot .kept .1 .1 .1 .1 .1 .0)
 
-loop-less-4 : tie.Need-loop-less-4 Inv-loop μ-loop
-loop-less-4 c = slot-on c .1
+loop-less-5 : tie.Need-loop-less-5 Inv-loop μ-loop
+loop-less-5 c = slot-on c .1
 
-loop-again-4 : tie.Need-loop-again-4 Inv-loop μ-loop
-loop-again-4 c =
+loop-again-5 : tie.Need-loop-again-5 Inv-loop μ-loop
+loop-again-5 c =
     let k = c .before .before .before in
-    let d = k .before .before .before .before .before .before .before .before .before .before in
-    (slot-on c .0, k .take-due .kept .1 .1 .1 .1 .0 ∙ d .before .before .loop .inv .1)
+    let d = slotOf-taken k .before .before .before in
+    (slot-on c .0, k .take-slot .kept .1 .1 .1 .1 .1 .1 .0 ∙ d .before .before .loop .inv .1)
 
 enum-told-4 : tie.Need-enum-told-4 Inv-loop μ-loop
 enum-told-4 c = search needs
@@ -343,30 +423,36 @@ read-run-spec =
     classify-requires
     mul-channel
     array-copy-out-channel
-    count-of-requires
-    deliver-message-requires
+    is-heard-requires
+    hear-requires
     mul-channels
     array-set-from-channels
-    with-count-requires
+    count-heard-requires
     loop-less-2
     loop-again-2
-    deliver-other-requires
+    goes-on-requires
+    go-on-requires
     mul-channels-2
     array-set-from-channels-2
-    with-count-requires-2
+    collect-requires
     loop-less-3
     loop-again-3
+    deliver-other-requires
+    mul-channels-3
+    array-set-from-channels-3
+    with-count-requires
+    loop-less-4
+    loop-again-4
     enum-told-3
     mul-t
     element-copy-out-t
-    mul-slot-due
-    element-copy-out-slot-due
-    element-copy-out-slot-due-2
-    slot-due-requires
-    slice-aggregate-take-due
-    take-due-requires
-    loop-less-4
-    loop-again-4
+    mul-take-slot
+    element-copy-out-take-slot
+    element-copy-out-take-slot-2
+    slice-aggregate-take-slot
+    take-slot-requires
+    loop-less-5
+    loop-again-5
     enum-told-4
     leave-requires
     same-length

@@ -1,7 +1,7 @@
--- Why `deliver_message` meets its contract: the message is heard, and its note and its unit counted.
+-- Why `count_message` meets its contract: the message is heard, and its note and its unit counted.
 use borrow.Author.Needs.{needs}
-use Rattle.totals.proofs.quick.deliver_message.Statement.{statement}
-use Rattle.totals.proofs.quick.deliver_message.Tie as tie
+use Rattle.totals.proofs.heard.count_message.Statement.{statement}
+use Rattle.totals.proofs.heard.count_message.Tie as tie
 
 hear-whole-requires : tie.Need-hear-whole-requires
 hear-whole-requires c κs = search needs
@@ -17,9 +17,9 @@ count-unit-requires c κs = search needs
 
 returns : tie.Need-returns
 returns c =
-    rw (c .count-unit .ensures, c .before .before .count-note .ensures, c .before .before .before .before .hear-whole .ensures)
+    rw (c .count-unit .ensures, c .before .before .count-note .ensures, c .before .before .before .hear-whole .ensures)
 
-pub deliver-message-spec : {M : Type 1} → statement M
-deliver-message-spec =
+pub count-message-spec : {M : Type 1} → statement M
+count-message-spec =
     tie.close
     (tie.spec hear-whole-requires count-note-requires sub-count-unit count-unit-requires returns)
