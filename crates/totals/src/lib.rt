@@ -1,6 +1,7 @@
 // Totals of a capture in memory: its frames, units, notes and bytes of units, without its lines.
 pub mod count;
 pub mod drain;
+pub mod frames;
 pub mod linkage;
 pub mod packet;
 pub mod quick;

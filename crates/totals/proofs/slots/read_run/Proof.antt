@@ -6,7 +6,6 @@ use native.Mathlib.Omega.{arith}
 use borrow.Author.Needs.{needs}
 use lib.ListN.{length, getD, set, drop}
 use Rattle.tmcc.specs.declared.layout.Layout.{Layout}
-use Rattle.mmtp.specs.Table.{tableOf}
 use Rattle.reassembly.specs.Channel.{unheard}
 use Rattle.reassembly.specs.declared.config.Config.{Config}
 use Rattle.delivery.specs.Packet.{arrivedAt, placeOf, Fits}
@@ -17,12 +16,11 @@ use Rattle.totals.specs.declared.quick.Class.{Class}
 use Rattle.totals.specs.declared.run.Run.{Run}
 use Rattle.totals.specs.declared.run.Step.{Step}
 use Rattle.totals.specs.declared.run.Turn.the-variants.{On, Packet as Deliver, Slot, End}
-use Rattle.totals.specs.declared.slots.Parts.{Parts}
 use Rattle.totals.specs.Packet.{deliveredOf}
 use Rattle.totals.specs.Quick.{class-place, message-whole, message-delivered}
 use Rattle.totals.specs.Run.{countOf, stepOf}
 use Rattle.totals.specs.Runs.{Took, tookOf, isPast}
-use Rattle.totals.specs.Rest.{begun}
+use Rattle.totals.specs.Rest.{sessionOf}
 use Rattle.totals.specs.Onward.{Going, fuel, going-first, going-on, going-packet, going-slot, going-rest, going-end}
 use Rattle.totals.specs.Onward.{deliveredAt, going-id, past-same, slot-due-is, packet-long}
 use Rattle.totals.proofs.slots.read_run.Statement.{statement}
@@ -30,14 +28,14 @@ use Rattle.totals.proofs.slots.read_run.Tie as tie
 
 abbrev Inv-loop : tie.InvT-loop
 Inv-loop b packet₀ collecting₀ parts layout spare₀ channels₀ run₀ packet collecting spare channels run =
-    Going (parts .session) packet₀ collecting₀ b packet collecting channels run × (length spare ≡ 5049)
+    Going (sessionOf parts) packet₀ collecting₀ b packet collecting channels run × (length spare ≡ 5049)
 
 abbrev μ-loop : tie.MeasureT-loop
 μ-loop b packet₀ collecting₀ parts layout spare₀ channels₀ run₀ packet collecting spare channels run = fuel b run
 
 -- the parts are the session's
-config-is : (a : tie.Start Inv-loop μ-loop) → a .args .t1 .config ≡ a .args .t1 .session .state .config
-config-is a = ap (λ (x : Parts). x .config) (a .pre .parts)
+config-is : (a : tie.Start Inv-loop μ-loop) → a .args .t1 .config ≡ sessionOf (a .args .t1) .state .config
+config-is a = refl
 
 -- the run before a turn, and the turn
 stepped : (d : tie.After-next-step Inv-loop μ-loop)
@@ -50,16 +48,7 @@ startOf d = d .before .before .before .before .before .before .before .before .b
 loop-holds : tie.Need-loop-holds Inv-loop μ-loop
 loop-holds c =
     let a = c .before .before .before .before .before .before in
-    let x = a .args .t1 in
-    let e = a .pre .parts in
-    let p = a .args .packet .now in
-    let q = a .args .collecting .now in
-    let b = a .args .b .now in
-    let i : begun (x .session) .id < 65536 = rw (ap (λ (y : Parts). y .run .id) e) at (a .pre .id) in (
-      subst (λ (y : Parts). Going (x .session) p q b p q (y .channels) (y .run)) (sym e)
-          (going-first (x .session) p q b (a .pre .rested) i),
-      refl,
-    )
+    (going-first (a .args .t1) (a .args .packet .now) (a .args .collecting .now) (a .args .b .now) (a .pre), refl)
 
 next-step-requires : tie.Need-next-step-requires Inv-loop μ-loop
 next-step-requires c κs = search needs
@@ -97,7 +86,7 @@ comes k = k .before .before .before .before .before .enum-told2 .given .1
 
 place-is : (k : tie.After-classify Inv-loop μ-loop) → let d = nextOf k in let x = d .next-step .result in
     k .classify .result .place
-    ≡ placeOf (arrivedAt (startOf d .args .t1 .session .state .config) (d .before .before .loop .packet) (x .start) (x .end))
+    ≡ placeOf (arrivedAt (sessionOf (startOf d .args .t1) .state .config) (d .before .before .loop .packet) (x .start) (x .end))
 place-is k =
     let d = nextOf k in
     let x = d .next-step .result in
@@ -111,7 +100,7 @@ below k = rw (place-is k) (arrived-below _ _ _ _ _ refl)
 classify-requires : tie.Need-classify-requires Inv-loop μ-loop
 classify-requires c κs =
     let a = startOf (c .before .before .before .before .before .before .before) in
-    ap (λ (y : Parts). y .table) (a .pre .parts) ∙ ap (λ (y : Config). tableOf (y .watch)) (sym (config-is a))
+    a .pre .still .table
 
 mul-channel : tie.Need-mul-channel Inv-loop μ-loop
 mul-channel c = record { fits = omega (arith, below c) }
@@ -142,7 +131,7 @@ with-count-requires c κs = search needs
 message-on : (c : tie.After-with-count Inv-loop μ-loop) → let k = c .before .before .before .before .before .before in
     let d = nextOf k in let l = d .before .before .loop in let a = startOf d in
     let v = c .before .before .deliver-message .result in
-    Going (a .args .t1 .session) (a .args .packet .now) (a .args .collecting .now) (a .args .b .now) (l .packet) (l .collecting)
+    Going (sessionOf (a .args .t1)) (a .args .packet .now) (a .args .collecting .now) (a .args .b .now) (l .packet) (l .collecting)
     (set (l .channels) (k .classify .result .place) (v .channel)) (c .with-count .result)
     × (fuel (a .args .b .now) (c .with-count .result) < fuel (a .args .b .now) (l .run))
 unfolding unheard
@@ -153,7 +142,7 @@ message-on c =
     let l = d .before .before .loop in
     let x = d .next-step .result in
     let v = m .deliver-message .result in
-    let s = startOf d .args .t1 .session .state .config in
+    let s = sessionOf (startOf d .args .t1) .state .config in
     let g = config-is (startOf d) in
     let h : (v, l .collecting)
     ≡ deliveredAt s (getD (l .channels) (k .classify .result .place) unheard) (l .packet) (l .collecting) x =
@@ -199,7 +188,7 @@ with-count-requires-2 c κs = search needs
 other-on : (c : tie.After-with-count2 Inv-loop μ-loop) → let o = c .before .before .before .before in
     let k = o .before .before .before .before .before .before in
     let d = nextOf k in let l = d .before .before .loop in let a = startOf d in
-    Going (a .args .t1 .session) (a .args .packet .now) (a .args .collecting .now) (a .args .b .now) (l .packet)
+    Going (sessionOf (a .args .t1)) (a .args .packet .now) (a .args .collecting .now) (a .args .b .now) (l .packet)
     (o .deliver-other .last .1 .1 .1 .1 .0)
     (set (l .channels) (k .classify .result .place) (o .deliver-other .result .channel)) (c .with-count2 .result)
     × (fuel (a .args .b .now) (c .with-count2 .result) < fuel (a .args .b .now) (l .run))
@@ -272,7 +261,7 @@ take-due-requires c κs =
 slot-on : (c : tie.After-spare2 Inv-loop μ-loop) → let k = c .before .before .before in
     let d = k .before .before .before .before .before .before .before .before .before .before in
     let l = d .before .before .loop in let a = startOf d in
-    Going (a .args .t1 .session) (a .args .packet .now) (a .args .collecting .now) (a .args .b .now)
+    Going (sessionOf (a .args .t1)) (a .args .packet .now) (a .args .collecting .now) (a .args .b .now)
     (k .take-due .last .1 .1 .1 .0)
     (l .collecting) (l .channels) (k .take-due .result)
     × (fuel (a .args .b .now) (k .take-due .result) < fuel (a .args .b .now) (l .run))
@@ -291,10 +280,9 @@ slot-on c =
     tookOf y (drop (y .read) b) (getD (m .lengths) (y .slot) 0) (getD (m .own) (y .slot) false)
     (getD (m .pointers) (y .slot) (record { 0 = 0; 1 = 0 })) (l .packet) (l .spare) in
     let h : (k .take-due .result, k .take-due .last .1 .1 .1 .0, sp)
-    ≡ took (l .run) (a .args .t1 .session .state .frame .layout) =
+    ≡ took (l .run) (sessionOf (a .args .t1) .state .frame .layout) =
     rw (u .slot-due .ensures) at (k .take-due .ensures)
-    ∙ ap (λ (y : Run). took y (a .args .t1 .layout)) (past-same _ _ _ _ _ _ _ _ (l .inv .0) x (stepped d) (ap isPast t))
-    ∙ ap (λ (y : Parts). took (l .run) (y .layout)) (a .pre .parts) in
+    ∙ ap (λ (y : Run). took y (a .args .t1 .layout)) (past-same _ _ _ _ _ _ _ _ (l .inv .0) x (stepped d) (ap isPast t)) in
     going-slot _ _ _ _ _ _ _ _ (l .inv .0) x (stepped d) t (k .take-due .result, k .take-due .last .1 .1 .1 .0, sp) (l .spare) h
     (k .take-due .kept .1 .1 .1 .0)
 
@@ -310,10 +298,8 @@ loop-again-4 c =
 enum-told-4 : tie.Need-enum-told-4 Inv-loop μ-loop
 enum-told-4 c = search needs
 
-leave-requires : tie.Need-leave-requires Inv-loop μ-loop
-leave-requires c κs =
-    let d = c .before .before .before .before in
-    going-rest _ _ _ _ _ _ _ _ (d .before .before .loop .inv .0) _ (stepped d) (ap isPast (c .before .enum-told4 .given .1))
+with-run-requires : tie.Need-with-run-requires Inv-loop μ-loop
+with-run-requires c κs = search needs
 
 same-length : tie.Need-same-length Inv-loop μ-loop
 same-length c = search needs
@@ -323,10 +309,19 @@ same-length-2 c = search needs
 
 returns : tie.Need-returns Inv-loop μ-loop
 returns c =
-    let d = c .before .before .before .before .before in
-    rw (c .leave .ensures)
-    (going-end _ _ _ _ _ _ _ _ (d .before .before .loop .inv .0) _ (stepped d)
-    (ap isPast (c .before .before .enum-told4 .given .1)))
+    let e = c .before in
+    let d = e .before .before .before in
+    let g = d .before .before .loop .inv .0 in
+    let t = ap isPast (e .enum-told4 .given .1) in
+    rw (c .with-run .ensures)
+    (record {
+      still = record {
+        table = startOf d .pre .still .table;
+        rest = going-rest _ _ _ _ _ _ _ _ g _ (stepped d) t;
+        long = g .drains .long;
+      };
+      onward = going-end _ _ _ _ _ _ _ _ g _ (stepped d) t;
+    })
 
 pub read-run-spec : {M : Type 1} → statement M
 read-run-spec =
@@ -368,7 +363,7 @@ read-run-spec =
     loop-less-4
     loop-again-4
     enum-told-4
-    leave-requires
+    with-run-requires
     same-length
     same-length-2
     returns)
