@@ -9,3 +9,4 @@ pub mod Slots
 pub mod Runs
 pub mod Rest
 pub mod Onward
+pub mod Frames

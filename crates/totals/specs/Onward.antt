@@ -9,7 +9,6 @@ use lib.ListN.{length, getD, set, take, drop, length-take, length-drop}
 use lib.Seq.{drop-drop}
 use lib.Dec.{eqb, ltb}
 use Rattle.wire.specs.Memory.{partOf, pasted}
-use Rattle.mmtp.specs.Table.{tableOf}
 use Rattle.reassembly.specs.declared.channel.Channel.{Channel}
 use Rattle.reassembly.specs.declared.config.Config.{Config}
 use Rattle.reassembly.specs.Channel.{unheard}
@@ -49,27 +48,9 @@ use Rattle.totals.specs.Run.{cursor-intake, taken-cursor, taken-fit, los
 use Rattle.totals.specs.Slots.{Open, slotDue}
 use Rattle.totals.specs.Runs.{runState, runSession, Same, run-on, Comes, run-comes, passed}
 use Rattle.totals.specs.Runs.{Took, tookBy, tookOf, took-is, took-none, took-to, due-data, isPast, run-past, run-left}
-use Rattle.totals.specs.Rest.{AtRest, leftOf, Rested, begun, reading-phase, first-waits, first-drains, first-ends}
-use Rattle.totals.specs.Rest.{past-rest}
+use Rattle.totals.specs.Rest.{AtRest, sessionOf, leftOf, Still, Ready, reading-phase}
+use Rattle.totals.specs.Rest.{first-waits, first-drains, first-ends, past-rest}
 use Rattle.totals.specs.Ends.{Ends, goes, ends-drained}
-
--- a session taken apart
-abbrev pub partsOf : Session → Parts
-partsOf s =
-    record {
-      session = s;
-      config = s .state .config;
-      layout = s .state .frame .layout;
-      table = tableOf (s .state .config .watch);
-      channels = s .state .channels;
-      run = begun s;
-    }
-
--- it is at rest
-pub record Ready (x : Parts) (packet collecting : ℕ) : Type 0 where
-  pub parts : x ≡ partsOf (x .session)
-  pub id : x .run .id < 65536
-  pub rested : Rested (x .session) packet collecting
 
 -- what the packet that a turn comes to leaves, and collecting memory
 abbrev pub deliveredAt : Config → Channel → List ℕ → List ℕ → Step → Delivered × List ℕ
@@ -97,6 +78,11 @@ pub record Onward (s : Session) (p c b : List ℕ) (r : Stepped) (q d : List ℕ
   pub within : r .read ≤ length b
   pub calm : busy s ≡ false → busy (r .session) ≡ false
   pub ends : {t : Tally} {m e : List ℕ} → Ends (r .session) q d (drop (r .read) b) t m e → Ends s p c b t m e
+
+-- a run from parts, to parts at rest
+pub record Ran (x : Parts) (p c b : List ℕ) (y : Parts) (q d : List ℕ) : Type 0 where
+  pub still : Still y (length q) (length d)
+  pub onward : Onward (sessionOf x) p c b (leftOf y (y .run .read)) q d
 
 -- a loop over packets goes on: the run r with the channels l stands for a session from which the capture ends as from s
 pub record Going (s : Session) (p₀ c₀ b p c : List ℕ) (l : List Channel) (r : Run) : Type 0 where
@@ -213,18 +199,17 @@ step-keeps r p = go (advancedOf (cursorOf r) p .found) (withCursor r (advancedOf
     go Done x = (refl, refl, refl)
 
 -- where it begins
-pub going-first : (s : Session) (p c b : List ℕ) → Rested s (length p) (length c) → begun s .id < 65536
-    → Going s p c b p c (s .state .channels) (begun s)
-unfolding begun
-going-first s p c b h i =
+pub going-first : (x : Parts) (p c b : List ℕ) → Ready x (length p) (length c)
+    → Going (sessionOf x) p c b p c (x .channels) (x .run)
+going-first x p c b h =
     record {
-      read = omega arith;
-      id = i;
-      few = let z = first-waits s p c h in omega (arith, z);
-      drains = first-drains s p c h;
+      read = omega (arith, h .read);
+      id = h .still .rest .id;
+      few = let z = first-waits x p c (h .still) in omega (arith, z);
+      drains = first-drains x p c (h .still);
       packet = refl;
       collecting = refl;
-      ends = λ n. first-ends s p c h n;
+      ends = λ n. first-ends x p c (h .still) (rw (h .read) at n);
     }
 
 module _ (s : Session) (p₀ c₀ b p c : List ℕ) (l : List Channel) (r : Run) (g : Going s p₀ c₀ b p c l r) where
@@ -396,11 +381,12 @@ module _ (s : Session) (p₀ c₀ b p c : List ℕ) (l : List Channel) (r : Run)
       let w = past-rest r p (ap (λ (y : Step). isPast (y .turn)) e ∙ t) in
       subst (λ (y : Run). AtRest y) (sym (past-same x e t)) (record { note = w .1; packet = w .2; end = w .3; id = g .id })
 
-  pub going-end : (x : Step) → stepOf r p ≡ x → isPast (x .turn) ≡ true → Onward s p₀ c₀ b (leftOf s l (x .run)) p c
+  pub going-end : (x : Step) → stepOf r p ≡ x → isPast (x .turn) ≡ true
+      → Onward s p₀ c₀ b (record { session = runSession s l (x .run) false; read = x .run .read }) p c
   going-end x e t =
       let i : runSession s l r false ≡ runSession s l (x .run) false =
       ap (λ (y : Run). runSession s l y false) (sym (past-same x e t)) in
-      subst (λ (y : Run). Onward s p₀ c₀ b (leftOf s l y) p c) (sym (past-same x e t))
+      subst (λ (y : Run). Onward s p₀ c₀ b (record { session = runSession s l y false; read = y .read }) p c) (sym (past-same x e t))
       (record {
         within = g .read;
         calm = λ h. and-false (isReading (s .phase));

@@ -8,6 +8,7 @@ use borrow.Author.Tests.{eqb-true, eqb-false, not-true}
 use lib.ListN.{length, drop}
 use lib.Dec.{eqb}
 use Rattle.wire.specs.Memory.{partOf}
+use Rattle.mmtp.specs.Table.{tableOf}
 use Rattle.tlv.specs.declared.packet.Next.{Next}
 use Rattle.tlv.specs.declared.packet.Next.the-variants.{Packet as PacketTo, Tail as TailAt}
 use Rattle.tlv.specs.Packet.{packetAt, tooLong}
@@ -31,9 +32,10 @@ use Rattle.totals.specs.declared.count.Count.{Count}
 use Rattle.totals.specs.declared.read.Stepped.{Stepped}
 use Rattle.totals.specs.declared.run.Run.{Run}
 use Rattle.totals.specs.declared.run.Step.{Step}
+use Rattle.totals.specs.declared.slots.Parts.{Parts}
 use Rattle.totals.specs.Count.{emptied, isEmpty, empty-is}
 use Rattle.totals.specs.Drain.{drained-idle}
-use Rattle.totals.specs.Run.{flag, isOn, on-flag, cursorOf, runOf, withCursor, stepOf, step-done}
+use Rattle.totals.specs.Run.{flag, isOn, on-flag, heldOf, cursorOf, tallyOf, runOf, withCursor, stepOf, step-done}
 use Rattle.totals.specs.Ends.{Ends, ends-drained}
 use Rattle.totals.specs.Runs.{runSession, isPast, after-past, run-past, run-left}
 
@@ -43,10 +45,6 @@ pub record AtRest (r : Run) : Type 0 where
   pub packet : r .packet ≡ 0
   pub end : r .end ≡ 0
   pub id : r .id < 65536
-
--- the session that a run comes to, and how many bytes of commands it read
-abbrev pub leftOf : Session → List Channel → Run → Stepped
-leftOf s l r = record { session = runSession s l r false; read = r .read }
 
 -- the session is read and owes nothing, its cursor is at rest and its queue empty, and the memories are long enough
 pub record Rested (s : Session) (packet collecting : ℕ) : Type 0 where
@@ -59,13 +57,6 @@ pub record Rested (s : Session) (packet collecting : ℕ) : Type 0 where
   pub end : s .state .cursor .end ≡ 0
   pub long : shortBy (s .state .config) packet collecting ≡ false
 
--- a run from there
-unfoldable pub begun : Session → Run
-begun s =
-    let n : Count = record { tally = s .tally; «packet_id» = s .state .queue .«packet_id» } in
-    let h = s .state .held in
-    runOf (s .state .frame .at) 0 0 (s .state .cursor) (flag (h .on)) (h .start) (h .len) n
-
 -- whether it is so
 unfoldable pub rests : Session → ℕ → ℕ → Bool
 rests s packet collecting =
@@ -76,6 +67,60 @@ rests s packet collecting =
     && (eqb (s .state .cursor .packet) 0
     && (not (s .state .cursor .reading)
     && (eqb (s .state .cursor .end) 0 && not (shortBy (s .state .config) packet collecting)))))))
+
+-- a run from such a session
+unfoldable pub begun : Session → Run
+begun s =
+    let n : Count = record { tally = s .tally; «packet_id» = s .state .queue .«packet_id» } in
+    let h = s .state .held in
+    runOf (s .state .frame .at) 0 0 (s .state .cursor) (flag (h .on)) (h .start) (h .len) n
+
+-- the session taken apart
+abbrev pub partsOf : Session → Parts
+partsOf s =
+    record {
+      config = s .state .config;
+      layout = s .state .frame .layout;
+      table = tableOf (s .state .config .watch);
+      channels = s .state .channels;
+      run = begun s;
+    }
+
+-- parts with the channels and the run that a loop left
+abbrev pub withRun : Parts → List Channel → Run → Parts
+withRun x l r = record { config = x .config; layout = x .layout; table = x .table; channels = l; run = r }
+
+-- the session that parts stand for, where their run is at rest
+abbrev pub sessionOf : Parts → Session
+sessionOf x =
+    record {
+      phase = Reading;
+      state = record {
+        config = x .config;
+        frame = record { layout = x .layout; at = x .run .slot };
+        owed = false;
+        held = heldOf (x .run);
+        cursor = cursorOf (x .run);
+        queue = emptied (x .run .id);
+        channels = x .channels;
+      };
+      tally = tallyOf (x .run);
+    }
+
+-- that session, and how many bytes of commands were read
+abbrev pub leftOf : Parts → ℕ → Stepped
+leftOf x n = record { session = sessionOf x; read = n }
+
+-- parts at rest, with memories that are long enough
+pub record Still (x : Parts) (packet collecting : ℕ) : Type 0 where
+  pub table : x .table ≡ tableOf (x .config .watch)
+  pub rest : AtRest (x .run)
+  pub long : shortBy (x .config) packet collecting ≡ false
+
+-- and nothing read yet
+pub record Ready (x : Parts) (packet collecting : ℕ) : Type 0 where
+  pub still : Still x packet collecting
+  pub read : x .run .read ≡ 0
 
 -- Laws.
 
@@ -105,16 +150,13 @@ rests-is s packet collecting h =
       long = not-true _ (e .1);
     }
 
--- a run from there stands for the session
-module _ (s : Session) (p c : List ℕ) (h : Rested s (length p) (length c)) where
-  abbrev first : Run
-  first = begun s
-
-  -- the session with this queue and these truth values
-  abbrev like : Queue → Bool → Bool → Bool → Session
-  like q o on reading =
+-- a session at rest is what its parts stand for
+module _ (s : Session) (packet collecting : ℕ) (h : Rested s packet collecting) where
+  -- the session with this phase and queue and these truth values
+  abbrev like : Phase → Queue → Bool → Bool → Bool → Session
+  like f q o on reading =
       record {
-        phase = s .phase;
+        phase = f;
         state = record {
           config = s .state .config;
           frame = s .state .frame;
@@ -133,24 +175,41 @@ module _ (s : Session) (p c : List ℕ) (h : Rested s (length p) (length c)) whe
         tally = s .tally;
       }
 
-  still-end : isOn (s .state .cursor .end) ≡ s .state .cursor .reading
-  still-end = ap isOn (h .end) ∙ sym (h .still)
-
-  first-is : runSession s (s .state .channels) first false ≡ s
+  pub parts-session : sessionOf (partsOf s) ≡ s
   unfolding begun
-  first-is =
-      ap (λ (q : Queue). like q false (isOn (flag (s .state .held .on))) (isOn (s .state .cursor .end))) (sym (h .empty))
-      ∙ ap (λ (o : Bool). like (s .state .queue) o (isOn (flag (s .state .held .on))) (isOn (s .state .cursor .end)))
-      (sym (h .free))
-      ∙ ap (λ (o : Bool). like (s .state .queue) (s .state .owed) o (isOn (s .state .cursor .end))) (on-flag (s .state .held .on))
-      ∙ ap (λ (o : Bool). like (s .state .queue) (s .state .owed) (s .state .held .on) o) still-end
+  parts-session =
+      let q = s .state .queue in
+      let o = s .state .owed in
+      let g = s .state .held .on in
+      let r = isOn (s .state .cursor .end) in
+      ap (λ (f : Phase). like f (emptied (q .«packet_id»)) false (isOn (flag g)) r) (sym (h .reading))
+      ∙ ap (λ (x : Queue). like (s .phase) x false (isOn (flag g)) r) (sym (h .empty))
+      ∙ ap (λ (x : Bool). like (s .phase) q x (isOn (flag g)) r) (sym (h .free))
+      ∙ ap (λ (x : Bool). like (s .phase) q o x r) (on-flag g)
+      ∙ ap (λ (x : Bool). like (s .phase) q o g x) (ap isOn (h .end) ∙ sym (h .still))
 
-  pub first-drains : Drains (runSession s (s .state .channels) first true) (length p) (length c)
-  first-drains = record { owed = rw (h .reading) refl; long = h .long }
+  pub parts-ready : begun s .id < 65536 → Ready (partsOf s) packet collecting
+  unfolding begun
+  parts-ready i =
+      record {
+        still = record {
+          table = refl;
+          rest = record { note = h .note; packet = h .none; end = h .end; id = i };
+          long = h .long;
+        };
+        read = refl;
+      }
+
+-- a run from parts at rest stands for their session
+module _ (x : Parts) (p c : List ℕ) (h : Still x (length p) (length c)) where
+  abbrev first : Run
+  first = x .run
+
+  pub first-drains : Drains (runSession (sessionOf x) (x .channels) first true) (length p) (length c)
+  first-drains = record { owed = refl; long = h .long }
 
   first-done : advancedOf (cursorOf first) p ≡ record { found = Done; cursor = cursorOf first }
-  unfolding begun
-  first-done = advanced-done (cursorOf first) p (h .note) (h .none) (ap isOn (h .end))
+  first-done = advanced-done (cursorOf first) p (h .rest .note) (h .rest .packet) (ap isOn (h .rest .end))
 
   first-past : isPast (stepOf first p .turn) ≡ true
   first-past =
@@ -163,17 +222,17 @@ module _ (s : Session) (p c : List ℕ) (h : Rested s (length p) (length c)) whe
       ap (λ (y : Step). y .run) d ∙ ap (λ (x : Advanced). withCursor first (x .cursor)) first-done
 
   -- it ends the same
-  pub first-ends : {b : List ℕ} {t : Tally} {q e : List ℕ} → Ends (runSession s (s .state .channels) first true) p c b t q e
-      → Ends s p c b t q e
+  pub first-ends : {b : List ℕ} {t : Tally} {q e : List ℕ}
+      → Ends (runSession (sessionOf x) (x .channels) first true) p c b t q e → Ends (sessionOf x) p c b t q e
   first-ends n =
       ends-drained
-      (drained-idle s p c (rw (h .reading, h .free) refl)
-      ∙ sym (run-left s (s .state .channels) first p c first-drains first-past
-      ∙ ap (λ (x : Run). (runSession s (s .state .channels) x false, c)) first-same ∙ ap (λ (x : Session). (x, c)) first-is)) n
+      (drained-idle (sessionOf x) p c refl
+      ∙ sym (run-left (sessionOf x) (x .channels) first p c first-drains first-past
+      ∙ ap (λ (y : Run). (runSession (sessionOf x) (x .channels) y false, c)) first-same)) n
 
   pub first-waits : cursorWaits (cursorOf first) ≡ 0
-  unfolding begun cursorWaits left
-  first-waits = rw (h .note, h .none, h .end)
+  unfolding cursorWaits left
+  first-waits = rw (h .rest .note, h .rest .packet, h .rest .end)
 
 -- a cursor that comes to nothing is at rest, and stays as it is
 module _ (k : Cursor) (p : List ℕ) where

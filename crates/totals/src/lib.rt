@@ -2,6 +2,7 @@
 pub mod count;
 pub mod drain;
 pub mod fragment;
+pub mod frames;
 pub mod heard;
 pub mod linkage;
 pub mod other;

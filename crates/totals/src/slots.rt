@@ -3,12 +3,14 @@ ghost use mathlib.Core.Path.{_≡_};
 ghost use Prim.Native.Nat.{_<_};
 ghost use lib.ListN.{length};
 ghost use Rattle.capture.specs.Session.{isReading};
-ghost use Rattle.totals.specs.Rest.{Rested, rests, begun, AtRest, leftOf};
-ghost use Rattle.totals.specs.Onward.{partsOf, Ready, Onward};
+ghost use Rattle.totals.specs.Rest.{Rested, rests, begun, AtRest, partsOf, withRun, leftOf, Ready};
+ghost use Rattle.totals.specs.Onward.{Onward, Ran};
 use crate::count::is_empty;
 use crate::fragment::collect;
 use crate::fragment::go_on;
 use crate::fragment::goes_on;
+use crate::frames::in_frame;
+use crate::frames::next_frame;
 use crate::heard::count_heard;
 use crate::heard::hear;
 use crate::heard::is_heard;
@@ -112,52 +114,8 @@ fn begin(session: Session) -> Run
     with_intake(blank, Intake { held, cursor })
 }
 
-// The session that a run comes to, and how many bytes of commands it read.
-fn leave(session: Session, channels: [Channel; 16], r: Run) -> Stepped
-    requires { ⌜ AtRest r ⌝ }
-    ensures { λ s. ⌜ s ≡ leftOf session channels r ⌝ }
-{
-    let queue = Queue {
-        note: 0,
-        over: false,
-        packet_id: (r.id % 65536) as u16,
-        give: Give::Nothing,
-    };
-    let before = session.state;
-    let sent = before.frame;
-    let frame = Frame { at: r.slot, ..sent };
-    let cursor = Cursor {
-        note: 0,
-        packet: 0,
-        reading: false,
-        at: r.at,
-        end: 0,
-    };
-    let held = held_of(r);
-    let state = State {
-        frame,
-        owed: false,
-        held,
-        cursor,
-        queue,
-        channels,
-        ..before
-    };
-    let tally = tally_of(r);
-    let session = Session {
-        state,
-        tally,
-        ..session
-    };
-    Stepped {
-        session,
-        read: r.read,
-    }
-}
-
-// A session taken apart, so that the loop keeps each part in a local of its own.
+// A session that owes nothing, taken apart, so that the loop keeps each part in a local of its own.
 pub struct Parts {
-    pub session: Session,
     pub config: Config,
     pub layout: Layout,
     pub table: Table,
@@ -177,7 +135,6 @@ fn parts_of(session: Session) -> Parts
     let channels = state.channels;
     let run = begin(session);
     Parts {
-        session,
         config,
         layout,
         table,
@@ -186,11 +143,65 @@ fn parts_of(session: Session) -> Parts
     }
 }
 
+// The session of parts at rest, and how many bytes of commands were read.
+fn leave(parts: Parts, read: usize) -> Stepped
+    requires { ⌜ AtRest (parts .run) ⌝ }
+    ensures { λ s. ⌜ s ≡ leftOf parts read ⌝ }
+{
+    let r = parts.run;
+    let queue = Queue {
+        note: 0,
+        over: false,
+        packet_id: (r.id % 65536) as u16,
+        give: Give::Nothing,
+    };
+    let layout = parts.layout;
+    let frame = Frame { layout, at: r.slot };
+    let cursor = Cursor {
+        note: 0,
+        packet: 0,
+        reading: false,
+        at: r.at,
+        end: 0,
+    };
+    let held = held_of(r);
+    let config = parts.config;
+    let channels = parts.channels;
+    let state = State {
+        config,
+        frame,
+        owed: false,
+        held,
+        cursor,
+        queue,
+        channels,
+    };
+    let tally = tally_of(r);
+    let phase = Phase::Reading;
+    let session = Session {
+        phase,
+        state,
+        tally,
+    };
+    Stepped { session, read }
+}
+
+// What a run leaves of the parts.
+fn with_run(parts: Parts, channels: [Channel; 16], run: Run) -> Parts
+    ensures { λ r. ⌜ r ≡ withRun parts channels run ⌝ }
+{
+    Parts {
+        channels,
+        run,
+        ..parts
+    }
+}
+
 // Each turn delivers a packet, or takes a slot. Most packets change two or three fields of their channel: they have branches of
 // their own, so that no more than these are stored.
-fn read_run(parts: Parts, b: &[u8], packet: &mut [u8], collecting: &mut [u8]) -> Stepped
+fn read_run(parts: Parts, b: &[u8], packet: &mut [u8], collecting: &mut [u8]) -> Parts
     requires { ⌜ Ready parts (length (now packet)) (length (now collecting)) ⌝ }
-    ensures { λ r. ⌜ Onward (parts .session) (now (packet .entry)) (now (collecting .entry)) (now (b .entry)) r
+    ensures { λ r. ⌜ Ran parts (now (packet .entry)) (now (collecting .entry)) (now (b .entry)) r
         (now (packet .exit)) (now (collecting .exit)) ⌝ }
 {
     let sent = parts.layout;
@@ -225,12 +236,40 @@ fn read_run(parts: Parts, b: &[u8], packet: &mut [u8], collecting: &mut [u8]) ->
                 let t = sent.pointers[s];
                 run = take_slot(run, b, sent.lengths[s], sent.own[s], t, packet, &mut spare);
             }
-            Turn::End => return leave(parts.session, channels, run),
+            Turn::End => return with_run(parts, channels, run),
         }
     }
 }
 
-// As many slots as follow, where they can be read so; none else.
+// The slots that follow, and the frames behind them.
+fn read_frames(session: Session, b: &[u8], packet: &mut [u8], collecting: &mut [u8]) -> Stepped
+    requires { ⌜ Rested session (length (now packet)) (length (now collecting)) ⌝ }
+    ensures { λ r. ⌜ Onward session (now (packet .entry)) (now (collecting .entry)) (now (b .entry)) r
+        (now (packet .exit)) (now (collecting .exit)) ⌝ }
+{
+    let mut parts = parts_of(session);
+    let mut at = 0;
+    loop {
+        parts = read_run(parts, &b[at..], packet, collecting);
+        let run = parts.run;
+        at += run.read;
+        let config = parts.config;
+        let next = next_frame(run.slot, config.stream, &b[at..]);
+        if !next.follows {
+            return leave(parts, at);
+        }
+        let layout = next.layout;
+        let run = in_frame(run);
+        parts = Parts {
+            layout,
+            run,
+            ..parts
+        };
+        at += 1179;
+    }
+}
+
+// As many slots and frames as follow, where they can be read so; none else.
 pub fn read_slots(session: Session, b: &[u8], packet: &mut [u8], collecting: &mut [u8]) -> Stepped
     ensures { λ r. ⌜ Onward session (now (packet .entry)) (now (collecting .entry)) (now (b .entry)) r
         (now (packet .exit)) (now (collecting .exit)) ⌝ }
@@ -238,6 +277,5 @@ pub fn read_slots(session: Session, b: &[u8], packet: &mut [u8], collecting: &mu
     if !is_rested(session, packet.len(), collecting.len()) {
         return Stepped { session, read: 0 };
     }
-    let parts = parts_of(session);
-    read_run(parts, b, packet, collecting)
+    read_frames(session, b, packet, collecting)
 }

@@ -4,8 +4,8 @@ use borrow.Author.Needs.{needs}
 use Rattle.totals.proofs.slots.leave.Statement.{statement}
 use Rattle.totals.proofs.slots.leave.Tie as tie
 
-cast-t14 : tie.Need-cast-t14
-cast-t14 c = search needs
+cast-t16 : tie.Need-cast-t16
+cast-t16 c = search needs
 
 held-of-requires : tie.Need-held-of-requires
 held-of-requires c κs = search needs
@@ -18,7 +18,7 @@ returns c =
     let a = c .before .before .before .before .before .before .before in
     rw (
       c .tally-of .ensures,
-      c .before .before .held-of .ensures,
+      c .before .before .before .held-of .ensures,
       mod-eq-of-lt (a .pre .id),
       a .pre .note,
       a .pre .packet,
@@ -26,4 +26,4 @@ returns c =
     )
 
 pub leave-spec : {M : Type 1} → statement M
-leave-spec = tie.close (tie.spec cast-t14 held-of-requires tally-of-requires returns)
+leave-spec = tie.close (tie.spec cast-t16 held-of-requires tally-of-requires returns)

@@ -7,7 +7,6 @@ use native.Mathlib.Omega.{arith}
 use borrow.Author.Needs.{needs}
 use lib.ListN.{length, getD, set, drop}
 use Rattle.tmcc.specs.declared.layout.Layout.{Layout}
-use Rattle.mmtp.specs.Table.{tableOf}
 use Rattle.reassembly.specs.Channel.{unheard}
 use Rattle.reassembly.specs.declared.config.Config.{Config}
 use Rattle.delivery.specs.Packet.{arrivedAt, placeOf, Fits}
@@ -18,11 +17,10 @@ use Rattle.totals.specs.declared.quick.Class.{Class}
 use Rattle.totals.specs.declared.run.Run.{Run}
 use Rattle.totals.specs.declared.run.Step.{Step}
 use Rattle.totals.specs.declared.run.Turn.the-variants.{On, Packet as Deliver, Slot, End}
-use Rattle.totals.specs.declared.slots.Parts.{Parts}
 use Rattle.totals.specs.Quick.{heardCount, pieceCount, goesOn, class-place, message-whole, heard-delivered, going-delivered}
 use Rattle.totals.specs.Run.{countOf, stepOf}
 use Rattle.totals.specs.Runs.{Took, tookOf, isPast}
-use Rattle.totals.specs.Rest.{begun}
+use Rattle.totals.specs.Rest.{sessionOf}
 use Rattle.totals.specs.Onward.{Going, fuel, going-first, going-on, going-packet, going-slot, going-rest, going-end}
 use Rattle.totals.specs.Onward.{bytesOf, Others, deliveredAt, going-id, past-same, slot-due-is, packet-long}
 use Rattle.totals.proofs.slots.read_run.Statement.{statement}
@@ -30,14 +28,10 @@ use Rattle.totals.proofs.slots.read_run.Tie as tie
 
 abbrev Inv-loop : tie.InvT-loop
 Inv-loop b packet₀ collecting₀ parts layout spare₀ channels₀ run₀ packet collecting spare channels run =
-    Going (parts .session) packet₀ collecting₀ b packet collecting channels run × (length spare ≡ 5049)
+    Going (sessionOf parts) packet₀ collecting₀ b packet collecting channels run × (length spare ≡ 5049)
 
 abbrev μ-loop : tie.MeasureT-loop
 μ-loop b packet₀ collecting₀ parts layout spare₀ channels₀ run₀ packet collecting spare channels run = fuel b run
-
--- the parts are the session's
-config-is : (a : tie.Start Inv-loop μ-loop) → a .args .t1 .config ≡ a .args .t1 .session .state .config
-config-is a = ap (λ (x : Parts). x .config) (a .pre .parts)
 
 -- the run before a turn, and the turn
 stepped : (d : tie.After-next-step Inv-loop μ-loop)
@@ -50,16 +44,7 @@ startOf d = d .before .before .before .before .before .before .before .before .b
 loop-holds : tie.Need-loop-holds Inv-loop μ-loop
 loop-holds c =
     let a = c .before .before .before .before .before .before in
-    let x = a .args .t1 in
-    let e = a .pre .parts in
-    let p = a .args .packet .now in
-    let q = a .args .collecting .now in
-    let b = a .args .b .now in
-    let i : begun (x .session) .id < 65536 = rw (ap (λ (y : Parts). y .run .id) e) at (a .pre .id) in (
-      subst (λ (y : Parts). Going (x .session) p q b p q (y .channels) (y .run)) (sym e)
-          (going-first (x .session) p q b (a .pre .rested) i),
-      refl,
-    )
+    (going-first (a .args .t1) (a .args .packet .now) (a .args .collecting .now) (a .args .b .now) (a .pre), refl)
 
 next-step-requires : tie.Need-next-step-requires Inv-loop μ-loop
 next-step-requires c κs = search needs
@@ -97,21 +82,18 @@ comes k = k .before .before .before .before .before .enum-told2 .given .1
 
 place-is : (k : tie.After-classify Inv-loop μ-loop) → let d = nextOf k in let x = d .next-step .result in
     k .classify .result .place
-    ≡ placeOf (arrivedAt (startOf d .args .t1 .session .state .config) (d .before .before .loop .packet) (x .start) (x .end))
+    ≡ placeOf (arrivedAt (startOf d .args .t1 .config) (d .before .before .loop .packet) (x .start) (x .end))
 place-is k =
     let d = nextOf k in
     let x = d .next-step .result in
     let p = d .before .before .loop .packet in
     ap (λ (y : Class). y .place) (k .classify .ensures) ∙ class-place (startOf d .args .t1 .config) p (x .start) (x .end)
-    ∙ ap (λ (y : Config). placeOf (arrivedAt y p (x .start) (x .end))) (config-is (startOf d))
 
 below : (k : tie.After-classify Inv-loop μ-loop) → k .classify .result .place < 16
 below k = rw (place-is k) (arrived-below _ _ _ _ _ refl)
 
 classify-requires : tie.Need-classify-requires Inv-loop μ-loop
-classify-requires c κs =
-    let a = startOf (c .before .before .before .before .before .before .before) in
-    ap (λ (y : Parts). y .table) (a .pre .parts) ∙ ap (λ (y : Config). tableOf (y .watch)) (sym (config-is a))
+classify-requires c κs = startOf (c .before .before .before .before .before .before .before) .pre .still .table
 
 mul-channel : tie.Need-mul-channel Inv-loop μ-loop
 mul-channel c = record { fits = omega (arith, below c) }
@@ -122,18 +104,6 @@ array-copy-out-channel c = below c
 is-heard-requires : tie.Need-is-heard-requires Inv-loop μ-loop
 is-heard-requires c κs = search needs
 
--- what the packet's delivery comes to, by the parts' configuration
-delivered-is : (k : tie.After-classify Inv-loop μ-loop) (v : Delivered) (q : List ℕ) → let d = nextOf k in
-    let l = d .before .before .loop in let x = d .next-step .result in
-    let h = getD (l .channels) (k .classify .result .place) unheard in
-    (v, q) ≡ deliveredAt (startOf d .args .t1 .config) h (l .packet) (l .collecting) x
-    → (v, q) ≡ deliveredAt (startOf d .args .t1 .session .state .config) h (l .packet) (l .collecting) x
-delivered-is k v q e =
-    let d = nextOf k in
-    let l = d .before .before .loop in
-    e ∙ ap (λ (y : Config). deliveredAt y (getD (l .channels) (k .classify .result .place) unheard) (l .packet) (l .collecting)
-    (d .next-step .result)) (config-is (startOf d))
-
 -- a packet and its class, and room for it
 others : (k : tie.After-classify Inv-loop μ-loop) → let d = nextOf k in let l = d .before .before .loop in
     Others (startOf d .args .t1 .config) (k .classify .result) (l .packet) (length (l .collecting)) (d .next-step .result)
@@ -142,9 +112,7 @@ others k =
     let l = d .before .before .loop in
     record {
       class = k .classify .ensures;
-      fits = arrived-fits _ _ _ _ _ _ refl
-          (subst (λ (y : Config). y .watch .n * y .limit ≤ length (l .collecting)) (sym (config-is (startOf d)))
-          (short-room _ _ _ (l .inv .0 .drains .long)));
+      fits = arrived-fits _ _ _ _ _ _ refl (short-room _ _ _ (l .inv .0 .drains .long));
       id = going-id _ _ _ _ _ _ _ _ (l .inv .0) _ (stepped d);
     }
 
@@ -165,7 +133,7 @@ count-heard-requires c κs =
 -- a packet of which nothing is collected leaves a run that goes on
 heard-on : (c : tie.After-count-heard Inv-loop μ-loop) → let k = c .before .before .before .before .before in
     let d = nextOf k in let l = d .before .before .loop in let a = startOf d in
-    Going (a .args .t1 .session) (a .args .packet .now) (a .args .collecting .now) (a .args .b .now) (l .packet) (l .collecting)
+    Going (sessionOf (a .args .t1)) (a .args .packet .now) (a .args .collecting .now) (a .args .b .now) (l .packet) (l .collecting)
     (set (l .channels) (k .classify .result .place) (c .before .hear .result)) (c .count-heard .result)
     × (fuel (a .args .b .now) (c .count-heard .result) < fuel (a .args .b .now) (l .run))
 unfolding unheard
@@ -184,7 +152,7 @@ heard-on c =
     (heard-delivered _ _ _ _ _ (sym (k .classify .ensures)) _ _ _ _ (sym (i .is-heard .ensures) ∙ t .if1 .taken)) in
     rw (c .count-heard .ensures .0)
     (going-packet _ _ _ _ _ _ _ _ (l .inv .0) x (stepped d) (comes k) _ (place-is k) v (l .collecting)
-    (delivered-is k v (l .collecting) e) refl (rw (c .count-heard .ensures .0) at (c .count-heard .ensures .1)))
+    e refl (rw (c .count-heard .ensures .0) at (c .count-heard .ensures .1)))
 
 loop-less-2 : tie.Need-loop-less-2 Inv-loop μ-loop
 loop-less-2 c = heard-on c .1
@@ -228,7 +196,7 @@ piece-on : (c : tie.After-slice-known3 Inv-loop μ-loop) → let o = c .before .
     let w = o .before .before .before .before in
     let k = w .before .before .before .before .before .before .before .before .before .before in
     let d = nextOf k in let l = d .before .before .loop in let a = startOf d in
-    Going (a .args .t1 .session) (a .args .packet .now) (a .args .collecting .now) (a .args .b .now) (l .packet)
+    Going (sessionOf (a .args .t1)) (a .args .packet .now) (a .args .collecting .now) (a .args .b .now) (l .packet)
     (o .collect .last .1 .1 .1 .1 .0)
     (set (l .channels) (k .classify .result .place) (w .go-on .result)) (o .collect .result)
     × (fuel (a .args .b .now) (o .collect .result) < fuel (a .args .b .now) (l .run))
@@ -250,7 +218,7 @@ piece-on c =
     rw (w .go-on .ensures, g)
     (sym (going-delivered _ _ _ _ _ (sym (k .classify .ensures)) _ _ (onward t) (l .collecting) (countOf (x .run)))) in
     rw f
-    (going-packet _ _ _ _ _ _ _ _ (l .inv .0) x (stepped d) (comes k) _ (place-is k) v q (delivered-is k v q e)
+    (going-packet _ _ _ _ _ _ _ _ (l .inv .0) x (stepped d) (comes k) _ (place-is k) v q e
     (o .collect .kept .1 .1 .1 .1 .0) (rw f at (o .collect .ensures .1)))
 
 loop-less-3 : tie.Need-loop-less-3 Inv-loop μ-loop
@@ -282,7 +250,7 @@ with-count-requires c κs = search needs
 other-on : (c : tie.After-with-count Inv-loop μ-loop) → let o = c .before .before .before .before in
     let k = classOf-other o in
     let d = nextOf k in let l = d .before .before .loop in let a = startOf d in
-    Going (a .args .t1 .session) (a .args .packet .now) (a .args .collecting .now) (a .args .b .now) (l .packet)
+    Going (sessionOf (a .args .t1)) (a .args .packet .now) (a .args .collecting .now) (a .args .b .now) (l .packet)
     (o .deliver-other .last .1 .1 .1 .1 .0)
     (set (l .channels) (k .classify .result .place) (o .deliver-other .result .channel)) (c .with-count .result)
     × (fuel (a .args .b .now) (c .with-count .result) < fuel (a .args .b .now) (l .run))
@@ -293,9 +261,9 @@ other-on c =
     let d = nextOf k in
     let l = d .before .before .loop in
     let x = d .next-step .result in
-    let h = delivered-is k _ _ (o .deliver-other .ensures) in
     rw (c .with-count .ensures .0)
-    (going-packet _ _ _ _ _ _ _ _ (l .inv .0) x (stepped d) (comes k) _ (place-is k) (o .deliver-other .result) _ h
+    (going-packet _ _ _ _ _ _ _ _ (l .inv .0) x (stepped d) (comes k) _ (place-is k) (o .deliver-other .result) _
+    (o .deliver-other .ensures)
     (o .deliver-other .kept .1 .1 .1 .1 .0) (rw (c .with-count .ensures .0) at (c .with-count .ensures .1)))
 
 loop-less-4 : tie.Need-loop-less-4 Inv-loop μ-loop
@@ -353,7 +321,7 @@ slotOf-taken k = k .before .before .before .before .before .before
 slot-on : (c : tie.After-spare2 Inv-loop μ-loop) → let k = c .before .before .before in
     let d = slotOf-taken k .before .before .before in
     let l = d .before .before .loop in let a = startOf d in
-    Going (a .args .t1 .session) (a .args .packet .now) (a .args .collecting .now) (a .args .b .now)
+    Going (sessionOf (a .args .t1)) (a .args .packet .now) (a .args .collecting .now) (a .args .b .now)
     (k .take-slot .last .1 .1 .1 .1 .1 .0)
     (l .collecting) (l .channels) (k .take-slot .result)
     × (fuel (a .args .b .now) (k .take-slot .result) < fuel (a .args .b .now) (l .run))
@@ -371,10 +339,9 @@ slot-on c =
     tookOf y (drop (y .read) b) (getD (m .lengths) (y .slot) 0) (getD (m .own) (y .slot) false)
     (getD (m .pointers) (y .slot) (record { 0 = 0; 1 = 0 })) (l .packet) (l .spare) in
     let h : (k .take-slot .result, k .take-slot .last .1 .1 .1 .1 .1 .0, sp)
-    ≡ took (l .run) (a .args .t1 .session .state .frame .layout) =
+    ≡ took (l .run) (a .args .t1 .layout) =
     k .take-slot .ensures
-    ∙ ap (λ (y : Run). took y (a .args .t1 .layout)) (past-same _ _ _ _ _ _ _ _ (l .inv .0) x (stepped d) (ap isPast t))
-    ∙ ap (λ (y : Parts). took (l .run) (y .layout)) (a .pre .parts) in
+    ∙ ap (λ (y : Run). took y (a .args .t1 .layout)) (past-same _ _ _ _ _ _ _ _ (l .inv .0) x (stepped d) (ap isPast t)) in
     going-slot _ _ _ _ _ _ _ _ (l .inv .0) x (stepped d) t
     (k .take-slot .result, k .take-slot .last .1 .1 .1 .1 .1 .0, sp) (l .spare) h (k .take-slot .kept .1 .1 .1 .1 .1 .0)
 
@@ -390,10 +357,8 @@ loop-again-5 c =
 enum-told-4 : tie.Need-enum-told-4 Inv-loop μ-loop
 enum-told-4 c = search needs
 
-leave-requires : tie.Need-leave-requires Inv-loop μ-loop
-leave-requires c κs =
-    let d = c .before .before .before .before in
-    going-rest _ _ _ _ _ _ _ _ (d .before .before .loop .inv .0) _ (stepped d) (ap isPast (c .before .enum-told4 .given .1))
+with-run-requires : tie.Need-with-run-requires Inv-loop μ-loop
+with-run-requires c κs = search needs
 
 same-length : tie.Need-same-length Inv-loop μ-loop
 same-length c = search needs
@@ -403,10 +368,19 @@ same-length-2 c = search needs
 
 returns : tie.Need-returns Inv-loop μ-loop
 returns c =
-    let d = c .before .before .before .before .before in
-    rw (c .leave .ensures)
-    (going-end _ _ _ _ _ _ _ _ (d .before .before .loop .inv .0) _ (stepped d)
-    (ap isPast (c .before .before .enum-told4 .given .1)))
+    let e = c .before in
+    let d = e .before .before .before in
+    let g = d .before .before .loop .inv .0 in
+    let t = ap isPast (e .enum-told4 .given .1) in
+    rw (c .with-run .ensures)
+    (record {
+      still = record {
+        table = startOf d .pre .still .table;
+        rest = going-rest _ _ _ _ _ _ _ _ g _ (stepped d) t;
+        long = g .drains .long;
+      };
+      onward = going-end _ _ _ _ _ _ _ _ g _ (stepped d) t;
+    })
 
 pub read-run-spec : {M : Type 1} → statement M
 read-run-spec =
@@ -454,7 +428,7 @@ read-run-spec =
     loop-less-5
     loop-again-5
     enum-told-4
-    leave-requires
+    with-run-requires
     same-length
     same-length-2
     returns)
