@@ -38,6 +38,10 @@ isEmpty q = cond (eqb (q .note) 0) (cond (q .over) false (noUnit (q .give))) fal
 abbrev pub notedBy : ℕ → Tally → Tally
 notedBy n t = cond (eqb n 0) t (withNote t)
 
+-- note 64
+abbrev pub overBy : Bool → Tally → Tally
+overBy o t = cond o (withNote t) t
+
 -- `f` bounds the events
 unfoldable pub countedBy : ℕ → Queue → List ℕ → Tally → Tally
 countedBy zero q p t = t
@@ -134,29 +138,40 @@ module _ (q : Queue) (p : List ℕ) where
 pub taken-empty : (id : ℕ) (p : List ℕ) → takenOf (emptied id) p ≡ record { event = NoEvent; queue = emptied id }
 taken-empty id p = taken-nothing (emptied id) p refl refl refl
 
--- a note, and a unit
-pub counted-one : (n id : ℕ) (g : Given) (p : List ℕ) (t : Tally)
-    → countedOf (record { note = n; over = false; «packet_id» = id; give = One g }) p t ≡ withUnit (notedBy n t) (g .place .len)
+-- the notes come first
+pub counted-notes : (n : ℕ) (o : Bool) (id : ℕ) (g : Give) (p : List ℕ) (t : Tally)
+    → countedOf (record { note = n; over = o; «packet_id» = id; give = g }) p t
+    ≡ countedOf (record { note = 0; over = false; «packet_id» = id; give = g }) p (overBy o (notedBy n t))
 unfolding tallied
-counted-one n id g p t = go (eqb n 0) refl
+counted-notes n o id g p t = go (eqb n 0) refl
   where
-    unit : (t : Tally)
-        → countedOf (record { note = 0; over = false; «packet_id» = id; give = One g }) p t ≡ withUnit t (g .place .len)
-    unit t =
-        let q : Queue = record { note = 0; over = false; «packet_id» = id; give = One g } in
-        let k = taken-one q p refl refl g refl in
-        counted-event q p t (rw k refl) ∙ rw k (counted-none (emptied id) p _ (rw (taken-empty id p) refl))
+    over : (b : Bool) (t : Tally)
+        → countedOf (record { note = 0; over = b; «packet_id» = id; give = g }) p t
+        ≡ countedOf (record { note = 0; over = false; «packet_id» = id; give = g }) p (overBy b t)
+    over false t = refl
+    over true t =
+        let q : Queue = record { note = 0; over = true; «packet_id» = id; give = g } in
+        let k = taken-over q p refl refl in
+        counted-event q p t (rw k refl) ∙ rw k
 
     go : (b : Bool) → eqb n 0 ≡ b
-        → countedOf (record { note = n; over = false; «packet_id» = id; give = One g }) p t
-        ≡ withUnit (cond b t (withNote t)) (g .place .len)
+        → countedOf (record { note = n; over = o; «packet_id» = id; give = g }) p t
+        ≡ countedOf (record { note = 0; over = false; «packet_id» = id; give = g }) p (overBy o (cond b t (withNote t)))
     go true e =
-        ap (λ (m : ℕ). countedOf (record { note = m; over = false; «packet_id» = id; give = One g }) p t) (eqb-true n 0 e)
-        ∙ unit t
+        ap (λ (m : ℕ). countedOf (record { note = m; over = o; «packet_id» = id; give = g }) p t) (eqb-true n 0 e) ∙ over o t
     go false e =
-        let q : Queue = record { note = n; over = false; «packet_id» = id; give = One g } in
+        let q : Queue = record { note = n; over = o; «packet_id» = id; give = g } in
         let k = taken-note q p (eqb-false _ _ e) in
-        counted-event q p t (rw k refl) ∙ rw k (unit (withNote t))
+        counted-event q p t (rw k refl) ∙ rw k (over o (withNote t))
+
+-- then a unit
+pub counted-unit : (id : ℕ) (g : Given) (p : List ℕ) (t : Tally)
+    → countedOf (record { note = 0; over = false; «packet_id» = id; give = One g }) p t ≡ withUnit t (g .place .len)
+unfolding tallied
+counted-unit id g p t =
+    let q : Queue = record { note = 0; over = false; «packet_id» = id; give = One g } in
+    let k = taken-one q p refl refl g refl in
+    counted-event q p t (rw k refl) ∙ rw k (counted-none (emptied id) p _ (rw (taken-empty id p) refl))
 
 pub counted-empty : (q : Queue) (p : List ℕ) (t : Tally) → isEmpty q ≡ true → countedOf q p t ≡ t
 counted-empty q p t e =

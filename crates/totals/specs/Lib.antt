@@ -2,6 +2,7 @@
 pub mod Count
 pub mod Packet
 pub mod Quick
+pub mod Joined
 pub mod Drain
 pub mod Ends
 pub mod Run

@@ -53,8 +53,11 @@ use Rattle.totals.specs.Rest.{first-waits, first-drains, first-ends, pas
 use Rattle.totals.specs.Ends.{Ends, goes, ends-drained}
 
 -- what the packet that a turn comes to leaves, and collecting memory
+abbrev pub deliveredWith : Config → Channel → List ℕ → List ℕ → Step → Count → Delivered × List ℕ
+deliveredWith c ch p l t n = deliveredOf (arrivedAt c p (t .start) (t .end)) ch p l (c .limit) n
+
 abbrev pub deliveredAt : Config → Channel → List ℕ → List ℕ → Step → Delivered × List ℕ
-deliveredAt c ch p l t = deliveredOf (arrivedAt c p (t .start) (t .end)) ch p l (c .limit) (countOf (t .run))
+deliveredAt c ch p l t = deliveredWith c ch p l t (countOf (t .run))
 
 -- its bytes
 abbrev pub bytesOf : List ℕ → Step → List ℕ

@@ -19,7 +19,7 @@ use Rattle.capture.specs.declared.session.Tally.{Tally}
 use Rattle.capture.specs.Session.{withUnit}
 use Rattle.totals.specs.declared.count.Count.{Count}
 use Rattle.totals.specs.declared.packet.Delivered.{Delivered}
-use Rattle.totals.specs.Count.{emptied, notedBy, countedOf, counted-one}
+use Rattle.totals.specs.Count.{emptied, notedBy, countedOf, counted-notes, counted-unit}
 
 -- what a packet FI 00 with this note has yet to give
 abbrev pub wholeQueue : Located → ℕ → List ℕ → Queue
@@ -85,4 +85,4 @@ module _ (l : Located) (note : ℕ) (p : List ℕ) (t : Tally) where
 
   pub counted-single : l .packet .payload .aggregated ≡ false
       → countedOf (wholeQueue l note p) p t ≡ withUnit (notedBy note t) (unitLen (unitIn l p))
-  counted-single e = ap counted e ∙ counted-one note _ _ p t
+  counted-single e = ap counted e ∙ counted-notes note false _ _ p t ∙ counted-unit _ _ p (notedBy note t)

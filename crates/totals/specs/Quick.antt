@@ -259,7 +259,7 @@ module _ (c : Config) (p : List ℕ) (start end : ℕ) where
 
   -- the bytes behind the compressed header
   module _ (k : ℕ) where
-    located-bytes : (y : Payload) → 7 < length b → bytesAt (plainLocated b k start end y) p ≡ drop 7 b
+    pub located-bytes : (y : Payload) → 7 < length b → bytesAt (plainLocated b k start end y) p ≡ drop 7 b
     located-bytes y h = part-behind p start end 7 (omega arith) (omega arith)
 
     -- the length of a whole message
@@ -274,7 +274,7 @@ module _ (c : Config) (p : List ℕ) (start end : ℕ) where
         unit-len-fits l p refl f ∙ rw e (omega arith)
 
     -- the data unit of a piece
-    fragment-unit : fragmentOf b ≡ true
+    pub fragment-unit : fragmentOf b ≡ true
         → unitIn (plainLocated b k start end (fragmentPayload b)) p
         ≡ record { fields = fieldsOf 2 (drop 27 b); start = 34; end = length b - 7 }
     unfolding firstUnit singleAt singleUnit singleFits fieldBytes
@@ -337,7 +337,7 @@ module _ (c : Config) (p : List ℕ) (start end : ℕ) where
 
     -- a fragment, by its step
     module _ (ch : Channel) (limit : ℕ) (m : x .fragment ≡ true) where
-      fragment-joined : (coll : List ℕ) (n : Count) (j : Joined) → joinOf ch (fragmentPiece x b) limit ≡ j
+      pub fragment-joined : (coll : List ℕ) (n : Count) (j : Joined) → joinOf ch (fragmentPiece x b) limit ≡ j
           → let l = plainLocated b (x .place) start end (fragmentPayload b) in
           deliveredOf (arrivedAt c p start end) ch p coll limit n
           ≡ deliveredBy (joinedBy j l (bytesAt l p) (unitIn l p) coll (baseOf l limit)) p n

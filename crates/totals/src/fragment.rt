@@ -20,7 +20,7 @@ use reassembly::join::Piece;
 use reassembly::unit::Unit;
 
 // The piece that a packet brings.
-fn piece(c: Class, b: &[u8]) -> Piece
+pub fn piece(c: Class, b: &[u8]) -> Piece
     requires { ⌜ (41 ≤ length (now b)) × (c .len ≡ length (now b)) ⌝ }
     ensures { λ r. ⌜ r ≡ fragmentPiece c (now (b .entry)) ⌝ }
 {

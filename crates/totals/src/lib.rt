@@ -4,6 +4,7 @@ pub mod drain;
 pub mod fragment;
 pub mod frames;
 pub mod heard;
+pub mod joined;
 pub mod linkage;
 pub mod other;
 pub mod packet;

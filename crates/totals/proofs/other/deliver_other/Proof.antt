@@ -3,9 +3,6 @@ use borrow.Author.Needs.{needs}
 use Rattle.totals.proofs.other.deliver_other.Statement.{statement}
 use Rattle.totals.proofs.other.deliver_other.Tie as tie
 
-arrive-as-requires : tie.Need-arrive-as-requires
-arrive-as-requires c κs = search needs
-
 same-channel-requires : tie.Need-same-channel-requires
 same-channel-requires c κs = search needs
 
@@ -15,10 +12,8 @@ count-of-requires c κs = search needs
 same-count-requires : tie.Need-same-count-requires
 same-count-requires c κs = search needs
 
-deliver-requires : tie.Need-deliver-requires
-deliver-requires c κs =
-    let a = c .before .before .before .before in
-    rw (a .arrive-as .ensures) (a .before .before .before .pre .fits)
+deliver-any-requires : tie.Need-deliver-any-requires
+deliver-any-requires c κs = search needs
 
 same-channel-requires-2 : tie.Need-same-channel-requires-2
 same-channel-requires-2 c κs = search needs
@@ -35,20 +30,17 @@ returns c =
     let d = h .before .before .before .before in
     let n = d .before .before in
     let o = n .before in
-    let k = o .before in
     rw (c .same-count2 .ensures, h .same-channel2 .ensures)
-    (rw (k .before .arrive-as .ensures, k .same-channel .ensures, n .same-count .ensures, o .count-of .ensures)
-    at (d .deliver .ensures))
+    (rw (o .before .same-channel .ensures, n .same-count .ensures, o .count-of .ensures) at (d .deliver-any .ensures))
 
 pub deliver-other-spec : {M : Type 1} → statement M
 deliver-other-spec =
     tie.close
     (tie.spec
-    arrive-as-requires
     same-channel-requires
     count-of-requires
     same-count-requires
-    deliver-requires
+    deliver-any-requires
     same-channel-requires-2
     same-count-requires-2
     same-length
