@@ -13,7 +13,8 @@ use Rattle.receiver.specs.Next.{nextOf}
 use Rattle.capture.specs.declared.session.Session.{Session}
 use Rattle.lines.specs.Text.{wrote, wrote-none, wrote-end, length-wrote, wrote-append}
 use Rattle.capture.specs.Session.{isReading, busy, withState, withTally}
-use Rattle.capture.specs.Waits.{waits, isLine}
+use Rattle.lines.specs.Line.{isLine}
+use Rattle.capture.specs.Waits.{waits}
 use Rattle.capture.specs.Capture.{Drained, behind, eventBy, eventLine, tallied, closed, drainedOf}
 use Rattle.capture.specs.Steps.{Poured, pouredAt, pourBy, roomy, pouredBy, pouredOf}
 use Rattle.capture.specs.Claims.{Pours, PourClaim}

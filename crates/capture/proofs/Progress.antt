@@ -13,7 +13,8 @@ use Rattle.receiver.specs.Next.{nextOf}
 use Rattle.capture.specs.declared.session.Session.{Session}
 use Rattle.capture.specs.Session.{busy, withState, withTally}
 use Rattle.lines.specs.Text.{wrote}
-use Rattle.capture.specs.Waits.{waits, isLine, next-falls}
+use Rattle.lines.specs.Line.{isLine}
+use Rattle.capture.specs.Waits.{waits, next-falls}
 use Rattle.capture.specs.Capture.{eventLine, tallied}
 use Rattle.capture.specs.Steps.{Poured, pourBy, roomy, pouredBy, pouredOf, pour-step}
 use Rattle.capture.specs.Feed.{World, keptOf, goesBy, goes, turnOf, fedBy, fedFrom, entered}

@@ -19,11 +19,11 @@ use Rattle.capture.specs.declared.session.Phase.{Phase}
 use Rattle.capture.specs.declared.session.Phase.the-variants.{Before, Reading, Ended}
 use Rattle.capture.specs.declared.session.Session.{Session}
 use Rattle.capture.specs.declared.session.Tally.{Tally}
-use Rattle.lines.specs.Line.{unitLine, noteLine, refusedLine, endLine}
+use Rattle.lines.specs.Line.{isLine, unitLine, noteLine, refusedLine, endLine}
 use Rattle.capture.specs.Command.{letterOf, sizeOf, whole, configOf}
 use Rattle.capture.specs.Session.{isEnded, busy, withState, inPhase, withTally, inFrame, inSlot, withUnit, withNote}
 use Rattle.capture.specs.Session.{freshSession}
-use Rattle.capture.specs.Waits.{waits, isLine}
+use Rattle.capture.specs.Waits.{waits}
 
 -- "C comes first and once; another order counts as unknown"
 abbrev pub fits : Phase → Letter → Bool

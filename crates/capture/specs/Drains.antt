@@ -7,7 +7,8 @@ use native.Mathlib.Omega.{arith}
 use Rattle.receiver.specs.Next.{nextOf}
 use Rattle.capture.specs.declared.session.Session.{Session}
 use Rattle.capture.specs.Session.{busy, withState}
-use Rattle.capture.specs.Waits.{waits, isLine, next-falls}
+use Rattle.lines.specs.Line.{isLine}
+use Rattle.capture.specs.Waits.{waits, next-falls}
 use Rattle.capture.specs.Bounded.{same-on, enough}
 use Rattle.capture.specs.Capture.{Drained, behind, eventBy, eventLine, drainedBy, drainedOf}
 

@@ -18,10 +18,10 @@ use Rattle.capture.specs.declared.session.Progress.{Progress}
 use Rattle.capture.specs.declared.session.Session.{Session}
 use Rattle.capture.specs.declared.session.Tally.{Tally}
 use Rattle.lines.specs.Text.{wrote, wrote-none}
-use Rattle.lines.specs.Line.{refusedLine}
+use Rattle.lines.specs.Line.{isLine, refusedLine}
 use Rattle.capture.specs.Command.{letterOf}
 use Rattle.capture.specs.Session.{isReading, busy, inPhase, withState, withTally}
-use Rattle.capture.specs.Waits.{waits, isLine, next-falls, next-owes}
+use Rattle.capture.specs.Waits.{waits, next-falls, next-owes}
 use Rattle.capture.specs.Bounded.{same-on, enough}
 use Rattle.capture.specs.Capture.{fits, callOf, afterCall, doneOf, eventLine, tallied, closed, lastLine}
 

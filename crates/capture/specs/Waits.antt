@@ -18,8 +18,6 @@ use Rattle.mmtp.specs.declared.unit.Step.the-variants.{Unit as UnitAt, Malforme
 use Rattle.mmtp.specs.Cases.{chose, chose-not}
 use Rattle.mmtp.specs.Unit.{unitAt, dataUnit, unitFits, unit-fits-end}
 use Rattle.intake.specs.declared.held.Cursor.{Cursor}
-use Rattle.delivery.specs.declared.event.Event.{Event as AnEvent}
-use Rattle.delivery.specs.declared.event.Event.the-variants.{Nothing as NoEvent, Note, Unit, Refused}
 use Rattle.delivery.specs.declared.queue.Aggregate.{Aggregate}
 use Rattle.delivery.specs.declared.queue.Give.{Give}
 use Rattle.delivery.specs.declared.queue.Give.the-variants.{Nothing, One, Many}
@@ -39,6 +37,7 @@ use Rattle.receiver.specs.State.{withSlot}
 use Rattle.receiver.specs.Slot.{shortBy}
 use Rattle.receiver.specs.Next.{Out, past, onwards, packetOf, readOn, readAll, nextOf, next-short, next-idle, next-reads}
 use Rattle.receiver.specs.ReadOn.{packet-kept}
+use Rattle.lines.specs.Line.{isLine}
 
 -- a unit of an aggregate takes a byte at least
 abbrev pub giveWaits : Give → List ℕ → ℕ
@@ -214,13 +213,6 @@ module _ (q : Queue) (cur : Cursor) (p : List ℕ) where
             λ h. cursor-falls cur _ q _ p (advanced-falls cur p h),
             λ g r'. cursor-falls cur _ q r' p (advanced-falls cur p (goes-done (a .found) g)),
           )
-
--- next gave a note or a unit
-abbrev pub isLine : AnEvent → Bool
-isLine NoEvent = false
-isLine (Note n id) = true
-isLine (Unit g) = true
-isLine (Refused n) = false
 
 -- after a line less waits, and next is owed as before
 module _ (p : List ℕ) where

@@ -3,7 +3,6 @@ ghost use mathlib.Core.Path.{_≡_};
 ghost use Prim.Native.Nat.{_+_, _≤_};
 ghost use lib.ListN.{length};
 ghost use Rattle.lines.specs.Text.{Put};
-ghost use Rattle.capture.specs.Waits.{isLine};
 ghost use Rattle.capture.specs.Session.{busy, withUnit, withState, withTally};
 ghost use Rattle.capture.specs.Capture.{eventLine, tallied, closed};
 ghost use Rattle.capture.specs.Steps.{roomy, Drains, pouredOf};
@@ -14,6 +13,7 @@ use crate::session::Tally;
 use crate::session::end;
 use delivery::event::Event;
 use lines::line::LONGEST;
+use lines::line::is_line;
 use lines::line::put_note;
 use lines::line::put_refused;
 use lines::line::put_unit;
@@ -40,18 +40,6 @@ pub fn is_busy(session: Session) -> bool
         Phase::Before => false,
         Phase::Reading => state.owed,
         Phase::Ended => false,
-    }
-}
-
-// Whether it is a note or a unit.
-pub fn is_line(event: Event) -> bool
-    ensures { λ r. ⌜ r ≡ isLine event ⌝ }
-{
-    match event {
-        Event::Nothing => false,
-        Event::Note(_, _) => true,
-        Event::Unit(_) => true,
-        Event::Refused(_) => false,
     }
 }
 

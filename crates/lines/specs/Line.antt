@@ -9,7 +9,16 @@ use lib.ListN.{length, length-append}
 use lib.Dec.{leb}
 use Rattle.reassembly.specs.declared.unit.Unit.{Unit}
 use Rattle.delivery.specs.declared.event.Given.{Given}
+use Rattle.delivery.specs.declared.event.Event.{Event}
+use Rattle.delivery.specs.declared.event.Event.the-variants.{Nothing, Note, Unit as AUnit, Refused}
 use Rattle.lines.specs.Decimal.{decimal, decimal-20}
+
+-- an event that has a line of its own: a note or a unit
+abbrev pub isLine : Event → Bool
+isLine Nothing = false
+isLine (Note n id) = true
+isLine (AUnit g) = true
+isLine (Refused n) = false
 
 abbrev pub space : ℕ
 space = 32

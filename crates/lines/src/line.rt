@@ -1,14 +1,28 @@
 // The lines of a capture, written to a slice.
+ghost use mathlib.Core.Path.{_≡_};
 ghost use Prim.Native.Nat.{_+_, _≤_};
 ghost use lib.ListN.{length};
 ghost use Rattle.lines.specs.Text.{Put};
-ghost use Rattle.lines.specs.Line.{field, placeText, carriedText, unitLine, idText, noteLine, refusedLine, endLine};
+ghost use Rattle.lines.specs.Line.{isLine, field, placeText, carriedText, unitLine, idText, noteLine, refusedLine, endLine};
 use crate::decimal::put_decimal;
+use delivery::event::Event;
 use delivery::event::Given;
 use reassembly::unit::Unit;
 
 // No line is longer: seven numbers of up to 20 digits, the word unit, and eight characters behind them.
 pub const LONGEST: usize = 152;
+
+// Whether it is a note or a unit.
+pub fn is_line(event: Event) -> bool
+    ensures { λ r. ⌜ r ≡ isLine event ⌝ }
+{
+    match event {
+        Event::Nothing => false,
+        Event::Note(_, _) => true,
+        Event::Unit(_) => true,
+        Event::Refused(_) => false,
+    }
+}
 
 // A number, and the character behind it.
 fn put_field(out: &mut [u8], at: usize, n: u64, end: u8) -> usize

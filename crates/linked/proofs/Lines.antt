@@ -12,7 +12,7 @@ use Rattle.capture.specs.declared.session.Phase.the-variants.{Ended}
 use Rattle.capture.specs.declared.session.Session.{Session}
 use Rattle.capture.specs.Command.{letterOf, sizeOf, whole}
 use Rattle.capture.specs.Session.{isEnded, busy, withState, withTally, inPhase}
-use Rattle.capture.specs.Waits.{isLine}
+use Rattle.lines.specs.Line.{isLine}
 use Rattle.capture.specs.Capture.{fits, doneOf, Drained, behind, eventLine, tallied, closed, drainedOf, lastLine, reads, textOf}
 use Rattle.capture.specs.Drains.{drain-step, drain-idle}
 use Rattle.capture.proofs.Pours.{closed-idle}

@@ -18,6 +18,7 @@ use Rattle.receiver.specs.Frame.{frameOf}
 use Rattle.receiver.specs.Slot.{slotOf}
 use Rattle.receiver.specs.Next.{nextOf}
 use Rattle.receiver.specs.Show.{showOf}
+use Rattle.lines.specs.Line.{isLine}
 use Rattle.test_signal.specs.declared.reading.Counts.{Counts}
 use Rattle.test_signal.specs.declared.reading.Reading.{Reading}
 use Rattle.test_signal.specs.declared.reading.Step.{Step}
@@ -45,19 +46,12 @@ counted (Note n id) source p c k = record { back = k .back; same = k .same; note
 counted (Refused n) source p c k = k
 counted Nothing source p c k = k
 
--- whether next is called again
-abbrev pub goesOn : Event → Bool
-goesOn (Unit g) = true
-goesOn (Note n id) = true
-goesOn (Refused n) = false
-goesOn Nothing = false
-
 -- a call of next, with packet memory p and collecting memory c
 unfoldable pub stepOf : List ℕ → Reading → List ℕ → List ℕ → Step × List ℕ
 stepOf source r p c =
     let a = nextOf (r .state) p c in
     let e = a .0 .event in
-    (record { reading = record { state = a .0 .state; counts = counted e source p (a .1) (r .counts) }; more = goesOn e }, a .1)
+    (record { reading = record { state = a .0 .state; counts = counted e source p (a .1) (r .counts) }; more = isLine e }, a .1)
 
 -- calls of next until nothing waits, at most `f`
 unfoldable pub drained : List ℕ → ℕ → Reading → List ℕ → List ℕ → Reading × List ℕ

@@ -1,13 +1,14 @@
 // The reading: start, frame, and the slots of the run, each with next until nothing waits.
 ghost use mathlib.Core.Path.{_≡_};
 ghost use Rattle.test_signal.specs.Compare.{isSame};
-ghost use Rattle.test_signal.specs.Reading.{unitMore, counted, goesOn, stepOf, drained, nexts};
+ghost use Rattle.test_signal.specs.Reading.{unitMore, counted, stepOf, drained, nexts};
 ghost use Rattle.test_signal.specs.Reading.{gaveOf, frameSlot, begun, readOf};
 use crate::compare;
 use crate::run;
 use crate::sent;
 use delivery::event::Event;
 use delivery::event::Given;
+use lines::line::is_line;
 use reassembly::unit::Unit;
 use receiver::show::show;
 use receiver::state::State;
@@ -95,17 +96,6 @@ fn count<'a>(
     }
 }
 
-fn is_more(event: Event) -> bool
-    ensures { λ r. ⌜ r ≡ goesOn event ⌝ }
-{
-    match event {
-        Event::Unit(_) => true,
-        Event::Note(_, _) => true,
-        Event::Refused(_) => false,
-        Event::Nothing => false,
-    }
-}
-
 // A call of next.
 fn call_next(r: Reading, source: &[u8], packet: &[u8], collecting: &mut [u8]) -> Step
     ensures { λ s. ⌜ (s, now (collecting .exit))
@@ -119,7 +109,7 @@ fn call_next(r: Reading, source: &[u8], packet: &[u8], collecting: &mut [u8]) ->
     let reading = Reading { state, counts };
     Step {
         reading,
-        more: is_more(event),
+        more: is_line(event),
     }
 }
 

@@ -19,7 +19,8 @@ use Rattle.delivery.specs.Queue.{takenOf, nextUnit, taken-note, taken-over, tak
 use Rattle.delivery.specs.Cursor.{isEvent}
 use Rattle.capture.specs.declared.session.Tally.{Tally}
 use Rattle.capture.specs.Session.{withNote, withUnit}
-use Rattle.capture.specs.Waits.{queueWaits, isLine, taken-falls}
+use Rattle.lines.specs.Line.{isLine}
+use Rattle.capture.specs.Waits.{queueWaits, taken-falls}
 use Rattle.capture.specs.Capture.{tallied}
 
 -- a queue that gives nothing

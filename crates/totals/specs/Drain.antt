@@ -49,7 +49,8 @@ use Rattle.receiver.specs.ReadOn.{read-step, read-event, read-received, read-ta
 use Rattle.capture.specs.declared.session.Session.{Session}
 use Rattle.capture.specs.declared.session.Phase.the-variants.{Ended}
 use Rattle.capture.specs.Session.{isReading, busy, inPhase, withState, withTally}
-use Rattle.capture.specs.Waits.{waits, queueWaits, isLine, taken-falls, next-falls}
+use Rattle.lines.specs.Line.{isLine}
+use Rattle.capture.specs.Waits.{waits, queueWaits, taken-falls, next-falls}
 use Rattle.capture.specs.Capture.{Drained, eventBy, tallied, closed, drainedOf}
 use Rattle.capture.specs.Drains.{drain-step, drain-idle}
 use Rattle.capture.specs.Steps.{Drains}

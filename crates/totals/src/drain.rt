@@ -7,9 +7,9 @@ ghost use Rattle.totals.specs.Drain.{endOf};
 use capture::pour::close;
 use capture::pour::count;
 use capture::pour::is_busy;
-use capture::pour::is_line;
 use capture::session::Phase;
 use capture::session::Session;
+use lines::line::is_line;
 use receiver::slot::is_short;
 
 // Event by event.

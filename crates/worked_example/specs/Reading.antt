@@ -16,6 +16,7 @@ use Rattle.receiver.specs.Frame.{frameOf}
 use Rattle.receiver.specs.Slot.{slotOf, lostSlotOf}
 use Rattle.receiver.specs.Next.{nextOf}
 use Rattle.receiver.specs.Show.{showOf}
+use Rattle.lines.specs.Line.{isLine}
 use Rattle.worked_example.specs.declared.report.Report.{Report}
 use Rattle.worked_example.specs.declared.reading.Reading.{Reading}
 use Rattle.worked_example.specs.declared.reading.Step.{Step}
@@ -43,13 +44,6 @@ shownOf (Unit g) p c =
     })
 shownOf (Refused n) p c = Refused n
 
--- whether next is called again
-abbrev pub goesOn : Event → Bool
-goesOn Nothing = false
-goesOn (Note n id) = true
-goesOn (Unit g) = true
-goesOn (Refused n) = false
-
 -- what calls leave: the reading, collecting memory, and the lines
 abbrev pub Left : Type 0
 Left = Reading × List ℕ × List ℕ
@@ -60,7 +54,7 @@ stepOf slot p l =
     let a = nextOf (l .0 .state) p (l .1) in
     let e = shownOf (a .0 .event) p (a .1) in
     let t = toldOf (l .0 .report) slot e (l .2) in
-    (record { reading = record { state = a .0 .state; report = t .0 }; more = goesOn e }, a .1, t .1)
+    (record { reading = record { state = a .0 .state; report = t .0 }; more = isLine e }, a .1, t .1)
 
 -- calls of next until nothing waits, at most `f`
 unfoldable pub drained : ℕ → ℕ → List ℕ → Left → Left

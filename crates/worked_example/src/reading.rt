@@ -1,6 +1,6 @@
 // The reading: start, frame, slot 1, 119 lost slots, each with next until nothing waits. Its lines go to `out`.
 ghost use mathlib.Core.Path.{_≡_};
-ghost use Rattle.worked_example.specs.Reading.{refusedOf, settledOf, shownOf, goesOn, stepOf, drained, nexts};
+ghost use Rattle.worked_example.specs.Reading.{refusedOf, settledOf, shownOf, stepOf, drained, nexts};
 ghost use Rattle.worked_example.specs.Reading.{lostOf, fadeOf, blockTaken, begun, slotTaken, readOf};
 use crate::report;
 use crate::report::Report;
@@ -9,6 +9,7 @@ use crate::sent;
 use delivery::event::Event;
 use delivery::event::Given;
 use delivery::event::Place;
+use lines::line::is_line;
 use receiver::answer::Called;
 use receiver::show::show;
 use receiver::state::State;
@@ -67,17 +68,6 @@ fn shown<'a>(event: Event, packet: &'a [u8], collecting: &'a [u8]) -> Event
     }
 }
 
-fn is_more(event: Event) -> bool
-    ensures { λ r. ⌜ r ≡ goesOn event ⌝ }
-{
-    match event {
-        Event::Nothing => false,
-        Event::Note(_, _) => true,
-        Event::Unit(_) => true,
-        Event::Refused(_) => false,
-    }
-}
-
 // A call of next; its event is told.
 fn call_next(r: Reading, slot: u64, packet: &[u8], collecting: &mut [u8], out: &mut [u8]) -> Step
     ensures { λ s. ⌜ (s, now (collecting .exit), now (out .exit))
@@ -92,7 +82,7 @@ fn call_next(r: Reading, slot: u64, packet: &[u8], collecting: &mut [u8], out: &
     let reading = Reading { state, report };
     Step {
         reading,
-        more: is_more(event),
+        more: is_line(event),
     }
 }
 

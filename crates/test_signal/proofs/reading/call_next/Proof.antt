@@ -10,8 +10,8 @@ next-requires c κs = search needs
 count-requires : tie.Need-count-requires
 count-requires c κs = search needs
 
-is-more-requires : tie.Need-is-more-requires
-is-more-requires c κs = search needs
+is-line-requires : tie.Need-is-line-requires
+is-line-requires c κs = search needs
 
 same-length : tie.Need-same-length
 same-length c = search needs
@@ -21,8 +21,8 @@ unfolding stepOf
 returns c =
     let k = c .before .before in
     let n = k .before .before .before .before in
-    rw (← n .next .ensures, c .is-more .ensures, k .count .ensures)
+    rw (← n .next .ensures, c .is-line .ensures, k .count .ensures)
 
 pub call-next-spec : {M : Type 1} → statement M
 call-next-spec =
-    tie.close (tie.spec next-requires count-requires is-more-requires same-length returns)
+    tie.close (tie.spec next-requires count-requires is-line-requires same-length returns)

@@ -13,8 +13,8 @@ shown-requires c κs = search needs
 tell-requires : tie.Need-tell-requires
 tell-requires c κs = search needs
 
-is-more-requires : tie.Need-is-more-requires
-is-more-requires c κs = search needs
+is-line-requires : tie.Need-is-line-requires
+is-line-requires c κs = search needs
 
 same-length : tie.Need-same-length
 same-length c = search needs
@@ -28,7 +28,7 @@ returns c =
     let t = c .before .before .before .before in
     let s = t .before .before in
     let n = s .before .before .before .before in
-    rw (← n .next .ensures, c .is-more .ensures, ← s .shown .ensures, ← t .tell .ensures)
+    rw (← n .next .ensures, c .is-line .ensures, ← s .shown .ensures, ← t .tell .ensures)
 
 pub call-next-spec : {M : Type 1} → statement M
 call-next-spec =
@@ -37,7 +37,7 @@ call-next-spec =
     next-requires
     shown-requires
     tell-requires
-    is-more-requires
+    is-line-requires
     same-length
     same-length-2
     returns)
