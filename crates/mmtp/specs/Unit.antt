@@ -8,7 +8,8 @@ use native.Mathlib.Omega.{arith}
 use borrow.Author.Tests.{le-leb, lt-leb, leb-true, leb-false, eq-eqb, ne-eqb, eqb-false, not-true}
 use lib.ListN.{length, getD, take, drop, length-drop}
 use lib.Dec.{eqb, leb}
-use lib.Seq.{getD-take, drop-drop, take-all}
+use lib.Seq.{getD-take, drop-drop}
+use Rattle.wire.specs.Memory.{slice-rest}
 use Rattle.wire.specs.Field.{be}
 use Rattle.mmtp.specs.Take.{be-take, drop-take}
 use Rattle.mmtp.specs.declared.unit.Fields.{Fields}
@@ -389,5 +390,5 @@ single-next m at kind h =
       unit = rw h;
       ordered = l;
       within = omega arith;
-      piece = rw (take-all (length m - s) (drop s m) (omega arith), drop-drop (fieldBytes kind) at m);
+      piece = rw (slice-rest m s, drop-drop (fieldBytes kind) at m);
     }

@@ -13,7 +13,6 @@ use Rattle.reassembly.specs.declared.channel.Phase.the-variants.{Unheard
 use Rattle.reassembly.specs.declared.channel.OpenUnit.{OpenUnit}
 use Rattle.reassembly.specs.declared.channel.Channel.{Channel}
 use Rattle.reassembly.specs.declared.join.Piece.{Piece}
-use Rattle.reassembly.specs.declared.join.Action.{Action}
 use Rattle.reassembly.specs.declared.join.Action.the-variants.{Nothing, Whole as GiveWhole, Store, Complete}
 use Rattle.reassembly.specs.declared.join.Joined.{Joined}
 use Rattle.reassembly.specs.declared.join.HeardWhole.{HeardWhole}

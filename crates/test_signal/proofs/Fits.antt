@@ -6,8 +6,8 @@ use mathlib.Core.List.{List, _++_, append-nil}
 use native.Mathlib.Omega.{arith}
 use lib.Dec.{eqb}
 use lib.ListN.{length, take, drop, length-drop, drop-of-length-le}
-use lib.Seq.{take-all}
 use borrow.Author.Tests.{eqb-true}
+use Rattle.wire.specs.Memory.{slice-rest}
 use Rattle.wire.specs.Memory.{partOf}
 use Rattle.reassembly.specs.declared.unit.Unit.{Unit}
 use Rattle.packer.specs.declared.pack.Packed.{Packed}
@@ -34,10 +34,7 @@ module _ (u : Unit) (cid sn m : ℕ) (s out : List ℕ) where
   unfolding packOf
   pack-fits p after e = rw (ap (λ (x : Packed × List ℕ). x .0 .len) e) (fits (eqb refusal 0) refl)
 
--- the part of the run from `at` on, and the run with that part replaced
-rest-all : (run : List ℕ) (at : ℕ) → take (length run - at) (drop at run) ≡ drop at run
-rest-all run at = take-all (length run - at) (drop at run) (rw length-drop (omega arith))
-
+-- the run with its part from `at` on replaced
 rest-put : (run out : List ℕ) (at : ℕ) → take at run ++ (out ++ drop (length run - at) (drop at run)) ≡ take at run ++ out
 rest-put run out at = rw (drop-of-length-le (drop at run) {i = length run - at} (rw length-drop (omega arith)), append-nil)
 
@@ -50,4 +47,4 @@ pub unit-put : (w : Written) (k : ℕ) (source run : List ℕ) (p : Packed) (out
     → (record { at = end; packed = cond (eqb (p .refusal) 0) ((w .packed + 1) % 2 ^ 64) (w .packed) }, after)
     ≡ unitWritten w k source run
 unit-put w k source run p out end after e h =
-    unit-written w k source run p out end after (rw (rest-all run (w .at)) at e) (rw (rest-put run out (w .at)) at h)
+    unit-written w k source run p out end after (rw (slice-rest run (w .at)) at e) (rw (rest-put run out (w .at)) at h)

@@ -1,14 +1,14 @@
 -- A capture read to its end, without its lines: the totals and both memories that are left.
 use Prim.Native.Nat.{ℕ}
 use mathlib.Core.Path.{_≡_, refl, sym, _∙_, ap}
-use mathlib.Core.Bool.{Bool, true, false, cond, true≢false}
+use mathlib.Core.Bool.{true, false, true≢false}
 use mathlib.Core.List.{List, _++_, append-assoc}
 use lib.ListN.{take, drop, replicate}
 use Rattle.capture.specs.declared.session.Session.{Session}
 use Rattle.capture.specs.declared.session.Tally.{Tally}
 use Rattle.capture.specs.Session.{busy, freshSession}
 use Rattle.capture.specs.Command.{sizeOf}
-use Rattle.capture.specs.Capture.{Drained, Done, doneOf, drainedOf, reads, lastLine, textOf, captureOf}
+use Rattle.capture.specs.Capture.{Done, doneOf, drainedOf, reads, lastLine, textOf, captureOf}
 use Rattle.capture.proofs.Texts.{text-step}
 use Rattle.totals.specs.declared.read.Stepped.{Stepped}
 use Rattle.totals.specs.Drain.{endOf, drained-idle, drained-calm}

@@ -1,7 +1,7 @@
 -- A piece of a timed MFU by its step: what is stored and counted.
 use Prim.Native.Nat.{ℕ, _+_, _-_, _*_, _≤_, _<_}
 use mathlib.Core.Path.{_≡_, refl, _∙_, ap, subst}
-use mathlib.Core.Bool.{Bool, true, false}
+use mathlib.Core.Bool.{true, false}
 use mathlib.Core.List.{List}
 use native.Mathlib.Omega.{arith}
 use lib.ListN.{length, drop, length-drop}
@@ -24,7 +24,7 @@ use Rattle.capture.specs.Session.{withUnit}
 use Rattle.totals.specs.declared.count.Count.{Count}
 use Rattle.totals.specs.declared.packet.Delivered.{Delivered}
 use Rattle.totals.specs.declared.quick.Class.{Class}
-use Rattle.totals.specs.Count.{emptied, notedBy, overBy, isEmpty, countedOf, counted-notes, counted-unit, counted-empty}
+use Rattle.totals.specs.Count.{notedBy, overBy, isEmpty, countedOf, counted-notes, counted-unit, counted-empty}
 use Rattle.totals.specs.Packet.{deliveredOf}
 use Rattle.totals.specs.Quick.{classOf, plainLocated, fragmentPiece, class-fragment, fragment-whole, fragment-unit}
 use Rattle.totals.specs.Quick.{located-bytes, fragment-joined}

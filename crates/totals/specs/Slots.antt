@@ -1,6 +1,6 @@
 -- Commands S and L that the slot that is due takes: what the session comes to.
 use Prim.Native.Nat.{ℕ, _+_, _-_, _%_, _<_, _≤_}
-use mathlib.Core.Path.{_≡_, refl, sym, _∙_, ap}
+use mathlib.Core.Path.{_≡_, refl, _∙_, ap}
 use mathlib.Core.Bool.{Bool, true, false, cond, _&&_, and-false, and-eq-true-iff}
 use mathlib.Core.List.{List, []}
 use native.Mathlib.Nat.{mod-eq-of-lt}
@@ -12,7 +12,6 @@ use lib.Dec.{eqb, leb}
 use Rattle.wire.specs.Field.{be}
 use Rattle.tmcc.specs.declared.layout.Pointers.{Pointers}
 use Rattle.receiver.specs.declared.state.State.{State}
-use Rattle.receiver.specs.State.{accepted}
 use Rattle.receiver.specs.Slot.{
   shortBy,
   refusalOf,
@@ -27,13 +26,12 @@ use Rattle.receiver.specs.Slot.{
   length-right,
   wrongLength,
 }
-use Rattle.capture.specs.declared.command.Letter.{Letter}
 use Rattle.capture.specs.declared.command.Letter.the-variants.{Slot, LostSlot}
 use Rattle.capture.specs.declared.session.Phase.the-variants.{Reading}
 use Rattle.capture.specs.declared.session.Session.{Session}
 use Rattle.capture.specs.Session.{withState, withTally, inSlot}
-use Rattle.capture.specs.Command.{letterOf, slotSize, sizeOf, whole, size-by, slot-size-known}
-use Rattle.capture.specs.Capture.{Done, reads, callOf, afterCall, settled, doneOf}
+use Rattle.capture.specs.Command.{letterOf, sizeOf, whole, size-by, slot-size-known}
+use Rattle.capture.specs.Capture.{Done, callOf, afterCall, doneOf}
 
 -- S with a whole slot of the length that is due
 abbrev pub wholeSlot : List ℕ → ℕ → Bool

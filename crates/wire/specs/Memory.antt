@@ -8,7 +8,7 @@ use native.Mathlib.Numerals.{add-one}
 use native.Mathlib.Omega.{arith}
 use lib.ListN.{length, getD, set, take, drop, length-append, length-take, length-drop}
 use lib.Dec.{leb}
-use lib.Seq.{paste, paste-zero, paste-suc, length-paste, take-paste, drop-paste, drop-drop, take-length, take-append-add}
+use lib.Seq.{paste, paste-zero, paste-suc, length-paste, take-paste, drop-paste, drop-drop, take-all, take-length, take-append-add}
 
 -- `d` with its `n` bytes from `at` replaced by the first `n` of `s`
 unfoldable pub pasted : List ℕ → ℕ → List ℕ → ℕ → List ℕ
@@ -17,6 +17,10 @@ pasted d at s n = paste d at s n
 -- the `len` bytes of `s` from `start`; none where one of them lies outside
 unfoldable pub partOf : List ℕ → ℕ → ℕ → List ℕ
 partOf s start len = cond (leb start (length s)) (cond (leb len (length s - start)) (take len (drop start s)) []) []
+
+-- a list from `n` to its end
+pub slice-rest : (b : List ℕ) (n : ℕ) → take (length b - n) (drop n b) ≡ drop n b
+slice-rest b n = take-all (length b - n) (drop n b) (rw (length-drop n b) (omega arith))
 
 -- nothing put in
 pub pasted-zero : (d : List ℕ) (at : ℕ) (s : List ℕ) → d ≡ pasted d at s 0

@@ -1,20 +1,13 @@
 -- Why `call` meets its contract: by the letter.
-use Prim.Native.Nat.{ℕ, _-_}
-use mathlib.Core.Path.{_≡_, _∙_, ap}
-use mathlib.Core.List.{List}
-use native.Mathlib.Omega.{arith}
-use lib.ListN.{length, take, drop, length-drop}
-use lib.Seq.{take-all}
+use Prim.Native.Nat.{_-_}
+use mathlib.Core.Path.{_∙_, ap}
+use Rattle.wire.specs.Memory.{slice-rest}
 use Rattle.receiver.specs.Start.{startOf}
 use Rattle.capture.specs.Command.{slot-size-long}
 use Rattle.capture.specs.Capture.{callOf}
 use borrow.Author.Needs.{needs}
 use Rattle.capture.proofs.act.call.Statement.{statement}
 use Rattle.capture.proofs.act.call.Tie as tie
-
--- what stands from a place on
-rest : (b : List ℕ) (n : ℕ) → take (length b - n) (drop n b) ≡ drop n b
-rest b n = take-all (length b - n) (drop n b) (rw (length-drop n b) (omega arith))
 
 enum-told : tie.Need-enum-told
 enum-told c = search needs
@@ -82,7 +75,7 @@ returns-2 : tie.Need-returns-2
 unfolding callOf
 returns-2 c =
     let b = c .before .before .before .before .before .before .before .args .b .now in
-    rw (c .before .before .enum-told2 .given .1, c .frame .ensures, rest b 1)
+    rw (c .before .before .enum-told2 .given .1, c .frame .ensures, slice-rest b 1)
 
 returns-3 : tie.Need-returns-3
 unfolding callOf
@@ -96,7 +89,7 @@ unfolding callOf
 returns-4 c =
     let s = c .before .before in
     let b = s .before .before .before .before .before .before .before .before .args .b .now in
-    rw (s .before .before .before .enum-told4 .given .1) (rw (rest b 3) at (s .slot .ensures))
+    rw (s .before .before .before .enum-told4 .given .1) (rw (slice-rest b 3) at (s .slot .ensures))
 
 same-length-2 : tie.Need-same-length-2
 same-length-2 c = search needs

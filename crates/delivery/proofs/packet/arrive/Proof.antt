@@ -1,12 +1,11 @@
 -- Why `arrive` meets its contract: by the packet's flow.
-use lib.Seq.{take-all}
-use lib.ListN.{length, take, drop, length-drop}
+use lib.ListN.{length, drop}
 use Prim.Native.Nat.{_<_, _≤_, _-_}
 use native.Mathlib.Omega.{arith}
 use Rattle.delivery.specs.Within.{part-within}
 use Rattle.delivery.specs.Packet.{arrived-silent, arrived-malformed, arrived-mmtp}
 use Rattle.mmtp.specs.Flow.{flowOf, mmtp-place}
-use Rattle.wire.specs.Memory.{partOf}
+use Rattle.wire.specs.Memory.{partOf, slice-rest}
 use mathlib.Core.Path.{_≡_, sym, _∙_}
 use borrow.Author.Needs.{needs}
 use Rattle.delivery.proofs.packet.arrive.Statement.{statement}
@@ -79,10 +78,8 @@ returns-3 c =
     let d = f .before .before in
     let b = d .before .part .result .now in
     let n = f .flow .given .0 .0 in
-    let l = length-drop n b in
-    let e : take (length b - n) (drop n b) ≡ drop n b = take-all (length b - n) (drop n b) (omega arith) in
     c .locate .ensures
-    ∙ rw (c .before .read .ensures, e, d .before .part .ensures, d .before .before .distance .ensures)
+    ∙ rw (c .before .read .ensures, slice-rest b n, d .before .part .ensures, d .before .before .distance .ensures)
     (sym (arrived-mmtp _ _ _ _ _ (flows d ∙ f .flow .given .1)))
 
 pub arrive-spec : {M : Type 1} → statement M

@@ -1,13 +1,12 @@
 -- Why `ixohuemil_calls` meets its contract: the calls made and those that are left are the capture's.
-use Prim.Native.Nat.{ℕ, _+_, _-_, _≤_}
+use Prim.Native.Nat.{_+_, _-_, _≤_}
 use mathlib.Core.Path.{_≡_, refl, sym, _∙_, ap}
 use mathlib.Core.Bool.{true}
-use mathlib.Core.List.{List}
 use native.Mathlib.Omega.{arith}
-use lib.ListN.{length, take, drop, length-drop}
-use lib.Seq.{take-all}
+use lib.ListN.{length, drop, length-drop}
 use borrow.Author.Needs.{needs}
 use borrow.Author.Tests.{not-true, not-false}
+use Rattle.wire.specs.Memory.{slice-rest}
 use Rattle.linked.specs.Calls.{callComes, Left, stepOf, after, callsBy, callsOf}
 use Rattle.linked.specs.Calls.{step-within, calls-none, calls-zero, after-none, after-last, calls-turn}
 use Rattle.linked.proofs.calls.ixohuemil_calls.Statement.{statement}
@@ -23,16 +22,12 @@ Inv-loop capture packet₀ collecting₀ calls session₀ read₀ made₀ packet
 abbrev μ-loop : tie.MeasureT-loop
 μ-loop capture packet₀ collecting₀ calls session₀ read₀ made₀ packet collecting session read made = calls - made
 
--- the bytes that are left
-rest : (b : List ℕ) (n : ℕ) → take (length b - n) (drop n b) ≡ drop n b
-rest b n = take-all (length b - n) (drop n b) (rw (length-drop n b) (omega arith))
-
 -- a call comes
 comes : (e : tie.Else1 Inv-loop μ-loop) → let l = e .before .before .before .before in
     callComes (l .loop .session) (drop (l .loop .read) (l .before .before .before .before .before .args .capture .now)) ≡ true
 comes e =
     let l = e .before .before .before .before in
-    rw (rest (l .before .before .before .before .before .args .capture .now) (l .loop .read)) at
+    rw (slice-rest (l .before .before .before .before .before .args .capture .now) (l .loop .read)) at
     (sym (e .before .call-comes .ensures) ∙ not-false _ (e .if1 .left))
 
 -- what it leaves
@@ -42,7 +37,7 @@ left : (m : tie.After-make-call Inv-loop μ-loop) → let l = m .before .before 
     (drop (l .loop .read) (l .before .before .before .before .before .args .capture .now))
 left m =
     let l = m .before .before .before .before .before .before .before .before in
-    rw (rest (l .before .before .before .before .before .args .capture .now) (l .loop .read)) at (m .make-call .ensures)
+    rw (slice-rest (l .before .before .before .before .before .args .capture .now) (l .loop .read)) at (m .make-call .ensures)
 
 -- it read no more than there was
 within : (m : tie.After-make-call Inv-loop μ-loop) → let l = m .before .before .before .before .before .before .before .before in
@@ -87,7 +82,7 @@ returns : tie.Need-returns Inv-loop μ-loop
 returns c =
     let l = c .before .before .before .before in
     let b = l .before .before .before .before .before .args .capture .now in
-    let h = rw (rest b (l .loop .read)) at (sym (c .before .call-comes .ensures) ∙ not-true _ (c .if1 .taken)) in
+    let h = rw (slice-rest b (l .loop .read)) at (sym (c .before .call-comes .ensures) ∙ not-true _ (c .if1 .taken)) in
     sym (after-last _ _ _) ∙ rw (calls-none _ _ _ _ _ h) at (l .loop .inv .2)
 
 sub-make-call : tie.Need-sub-make-call Inv-loop μ-loop
@@ -100,7 +95,7 @@ part-make-call-end : tie.Need-part-make-call-end Inv-loop μ-loop
 part-make-call-end c = search needs
 
 make-call-requires : tie.Need-make-call-requires Inv-loop μ-loop
-make-call-requires c κs = rw (rest _ _) (comes (c .before .before .before))
+make-call-requires c κs = rw (slice-rest _ _) (comes (c .before .before .before))
 
 add-read : tie.Need-add-read Inv-loop μ-loop
 add-read c =

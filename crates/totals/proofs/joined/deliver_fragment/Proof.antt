@@ -1,10 +1,10 @@
 -- Why `deliver_fragment` meets its contract: its piece, its step and its data unit are those of the definition, and there is room.
-use Prim.Native.Nat.{ℕ, _+_, _-_, _*_, _≤_, _<_}
+use Prim.Native.Nat.{ℕ, _-_, _≤_, _<_}
 use mathlib.Core.Path.{_≡_, sym, _∙_, ap}
 use mathlib.Core.List.{List}
 use native.Mathlib.Omega.{arith}
-use lib.ListN.{length, take, drop, length-drop}
-use lib.Seq.{take-all}
+use lib.ListN.{length, take, drop}
+use Rattle.wire.specs.Memory.{slice-rest}
 use Rattle.mmtp.specs.declared.unit.DataUnit.{DataUnit}
 use Rattle.reassembly.specs.declared.join.Joined.{Joined}
 use Rattle.reassembly.specs.Join.{joinOf}
@@ -30,9 +30,7 @@ whole d =
 -- behind the compressed header
 behind : (d : tie.After-part) → let b = d .part .result .now in let a = d .before .before .before .before .args in
     take (length b - 7) (drop 7 b) ≡ drop 7 (bytesOf (a .packet .now) (a .step))
-behind d =
-    let b = d .part .result .now in
-    take-all (length b - 7) (drop 7 b) (omega (arith, length-drop 7 b)) ∙ ap (drop 7) (bytes d)
+behind d = slice-rest (d .part .result .now) 7 ∙ ap (drop 7) (bytes d)
 
 -- the data unit and the step
 unit : (d : tie.After-piece) → let a = d .before .before .before .before .before .args in

@@ -1,12 +1,13 @@
 -- Why `read_with` meets its contract: each step, with the slots behind it, leaves a session that ends as the capture does.
 use Prim.Native.Nat.{ℕ, _+_, _-_, _≤_}
-use mathlib.Core.Path.{_≡_, refl, sym, _∙_, ap}
+use mathlib.Core.Path.{_≡_, refl, sym, _∙_}
 use mathlib.Core.Bool.{true, false, not, and-eq-true-iff}
 use mathlib.Core.List.{List, []}
 use native.Mathlib.Omega.{arith}
 use borrow.Author.Needs.{needs}
-use lib.ListN.{length, take, drop, length-drop}
-use lib.Seq.{take-all, drop-drop}
+use lib.ListN.{length, drop, length-drop}
+use lib.Seq.{drop-drop}
+use Rattle.wire.specs.Memory.{slice-rest}
 use Rattle.capture.specs.declared.session.Tally.{Tally}
 use Rattle.capture.specs.Command.{sizeOf, whole}
 use Rattle.capture.specs.Session.{isEnded, busy, freshSession}
@@ -28,16 +29,12 @@ Inv-loop capture packet₀ collecting₀ session₀ at₀ packet collecting sess
 abbrev μ-loop : tie.MeasureT-loop
 μ-loop capture packet₀ collecting₀ session₀ at₀ packet collecting session at = length capture - at
 
--- the bytes that are left
-rest : (b : List ℕ) (n : ℕ) → take (length b - n) (drop n b) ≡ drop n b
-rest b n = take-all (length b - n) (drop n b) (rw (length-drop n b) (omega arith))
-
 -- a command is read from them
 read : (e : tie.Then1 Inv-loop μ-loop) → let l = e .before .before .before in
     reads (l .loop .session) (drop (l .loop .at) (l .before .before .before .before .before .args .capture .now)) ≡ true
 read e =
     let l = e .before .before .before in
-    rw (rest (l .before .before .before .before .before .args .capture .now) (l .loop .at)) at
+    rw (slice-rest (l .before .before .before .before .before .args .capture .now) (l .loop .at)) at
     (sym (e .before .is-read .ensures) ∙ e .if1 .taken)
 
 -- what it leaves, and how it ends from there
@@ -47,7 +44,7 @@ left : (m : tie.After-step Inv-loop μ-loop) → let l = m .before .before .befo
     (drop (l .loop .at) (l .before .before .before .before .before .args .capture .now))
 left m =
     let l = m .before .before .before .before .before .before .before in
-    rw (rest (l .before .before .before .before .before .args .capture .now) (l .loop .at)) at (m .step .ensures)
+    rw (slice-rest (l .before .before .before .before .before .args .capture .now) (l .loop .at)) at (m .step .ensures)
 
 goes-on : (m : tie.After-step Inv-loop μ-loop) (t : Tally) (q e : List ℕ)
     → let l = m .before .before .before .before .before .before .before in
@@ -102,7 +99,7 @@ part-step-end : tie.Need-part-step-end Inv-loop μ-loop
 part-step-end c = search needs
 
 step-requires : tie.Need-step-requires Inv-loop μ-loop
-step-requires c κs = rw (rest _ _) (read (c .before .before .before))
+step-requires c κs = rw (slice-rest _ _) (read (c .before .before .before))
 
 add-at : tie.Need-add-at Inv-loop μ-loop
 add-at c =
@@ -121,7 +118,7 @@ slots : (n : tie.After-read-slots Inv-loop μ-loop) →
 slots n =
     let m = n .before .before .before .before .before .before .before .before .before in
     let l = m .before .before .before .before .before .before .before in
-    rw (rest (l .before .before .before .before .before .args .capture .now) (l .loop .at + m .step .result .read)) at
+    rw (slice-rest (l .before .before .before .before .before .args .capture .now) (l .loop .at + m .step .result .read)) at
     (n .read-slots .ensures)
 
 -- no more are read than there are
@@ -188,7 +185,7 @@ returns : tie.Need-returns Inv-loop μ-loop
 returns c =
     let l = c .before .before .before .before in
     let b = l .before .before .before .before .before .args .capture .now in
-    let h = rw (rest b (l .loop .at)) at (sym (c .before .before .is-read .ensures) ∙ c .before .if1 .left) in
+    let h = rw (slice-rest b (l .loop .at)) at (sym (c .before .before .is-read .ensures) ∙ c .before .if1 .left) in
     l .loop .inv .4 _ _ _ (stops (l .loop .session, l .loop .collecting) (drained-idle _ _ _ (l .loop .inv .1)) h refl refl refl)
 
 pub read-with-spec : {M : Type 1} → statement M

@@ -8,10 +8,11 @@ use borrow.Author.Tests.{not-true, not-false, eq-eqb, ne-eqb}
 use borrow.Author.Needs.{needs}
 use lib.ListN.{length, take, drop, length-take, length-drop}
 use lib.Seq.{take-all}
+use Rattle.wire.specs.Memory.{slice-rest}
 use Rattle.intake.specs.declared.held.Intake.{Intake}
 use Rattle.intake.specs.Aside.{asideOf}
 use Rattle.totals.specs.Run.{heldOf, withIntake}
-use Rattle.totals.specs.Runs.{passed, tookBy}
+use Rattle.totals.specs.Runs.{passed}
 use Rattle.totals.proofs.slot.take_command.Statement.{statement}
 use Rattle.totals.proofs.slot.take_command.Tie as tie
 
@@ -19,7 +20,7 @@ use Rattle.totals.proofs.slot.take_command.Tie as tie
 bytes : (b : List ℕ) → drop 3 (take (length b) b) ≡ take (length b - 3) (drop 3 b)
 bytes b =
     ap (drop 3) (take-all (length b) b (omega arith))
-    ∙ sym (take-all (length b - 3) (drop 3 b) (rw (length-drop 3 b) (omega arith)))
+    ∙ sym (slice-rest b 3)
 
 long : (e : tie.Else2) → let a = e .before .before .before .before .before .before .before in
     (3 ≤ length (a .args .command .now)) × (length (a .args .command .now) ≤ 5052)

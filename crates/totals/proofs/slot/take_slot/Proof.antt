@@ -5,15 +5,12 @@ use mathlib.Core.List.{List}
 use native.Mathlib.Omega.{arith}
 use borrow.Author.Needs.{needs}
 use lib.ListN.{length, take, drop, length-drop}
-use lib.Seq.{take-all, length-take-le}
+use lib.Seq.{length-take-le}
+use Rattle.wire.specs.Memory.{slice-rest}
 use Rattle.totals.specs.Slots.{slotDue}
 use Rattle.totals.specs.Runs.{Took, tookBy, took-is, took-none, took-front, due-data}
 use Rattle.totals.proofs.slot.take_slot.Statement.{statement}
 use Rattle.totals.proofs.slot.take_slot.Tie as tie
-
--- the bytes that are left
-rest : (b : List ℕ) (n : ℕ) → take (length b - n) (drop n b) ≡ drop n b
-rest b n = take-all (length b - n) (drop n b) (rw (length-drop n b) (omega arith))
 
 -- the size of the command, and that it is there
 size : (d : tie.After-slot-size) → let a = d .before .before .before .before .before in
@@ -21,7 +18,7 @@ size : (d : tie.After-slot-size) → let a = d .before .before .before .before .
     (d .slot-size .result ≡ slotDue b (a .args .due)) × (d .slot-size .result ≤ length b)
 size d =
     let a = d .before .before .before .before .before in
-    rw (rest (a .args .capture .now) (a .args .r .read)) at (d .slot-size .ensures)
+    rw (slice-rest (a .args .capture .now) (a .args .r .read)) at (d .slot-size .ensures)
 
 -- the command's bytes
 command : (b : List ℕ) (r n : ℕ) → take (r + n - r) (drop r b) ≡ take n (drop r b)

@@ -1,13 +1,12 @@
 -- Why `read_frames` meets its contract: each run, and each frame behind it, leaves parts from which the capture ends the same.
-use Prim.Native.Nat.{ℕ, _+_, _-_}
+use Prim.Native.Nat.{_+_, _-_}
 use mathlib.Core.Path.{_≡_, refl, sym, _∙_, ap, subst}
 use mathlib.Core.Bool.{true}
-use mathlib.Core.List.{List}
 use native.Mathlib.Omega.{arith}
 use borrow.Author.Tests.{not-false}
 use borrow.Author.Needs.{needs}
-use lib.ListN.{length, take, drop, length-drop}
-use lib.Seq.{take-all}
+use lib.ListN.{length, drop}
+use Rattle.wire.specs.Memory.{slice-rest}
 use Rattle.capture.specs.declared.session.Session.{Session}
 use Rattle.totals.specs.declared.slots.Parts.{Parts}
 use Rattle.totals.specs.Rest.{sessionOf, leftOf, Ready, parts-session, parts-ready}
@@ -23,10 +22,6 @@ Inv-loop b packet₀ collecting₀ parts₀ at₀ packet collecting parts at =
 
 abbrev μ-loop : tie.MeasureT-loop
 μ-loop b packet₀ collecting₀ parts₀ at₀ packet collecting parts at = length b - at
-
--- the bytes that are left
-rest : (b : List ℕ) (n : ℕ) → take (length b - n) (drop n b) ≡ drop n b
-rest b n = take-all (length b - n) (drop n b) (rw (length-drop n b) (omega arith))
 
 abbrev startOf : tie.At-loop Inv-loop μ-loop → tie.Start Inv-loop μ-loop
 startOf l = l .before .before .before .before .before
@@ -45,7 +40,7 @@ ran : (m : tie.After-read-run Inv-loop μ-loop) → let l = loopOf m in let a = 
 ran m =
     let l = loopOf m in
     onward-on (l .loop .parts) (m .read-run .result) (l .loop .at) _ (l .loop .inv .3)
-    (rw (rest (startOf l .args .b .now) (l .loop .at)) at (m .read-run .ensures .onward))
+    (rw (slice-rest (startOf l .args .b .now) (l .loop .at)) at (m .read-run .ensures .onward))
 
 -- and the frame behind it
 next : (n : tie.After-next-frame Inv-loop μ-loop) → n .next-frame .result .follows ≡ true
@@ -60,7 +55,7 @@ next n f =
     let at = l .loop .at + y .run .read in
     let b = startOf l .args .b .now in
     onward-on y (framed y (n .next-frame .result .layout)) at 1179 (ran m)
-    (next-onward y _ _ (drop at b) (n .next-frame .result) (rw (rest b at) at (n .next-frame .ensures)) f)
+    (next-onward y _ _ (drop at b) (n .next-frame .result) (rw (slice-rest b at) at (n .next-frame .ensures)) f)
 
 parts-of-requires : tie.Need-parts-of-requires Inv-loop μ-loop
 parts-of-requires c κs = search needs

@@ -1,6 +1,6 @@
 -- Why `read_run` meets its contract: each turn leaves a run from which the capture ends the same, with less left.
-use Prim.Native.Nat.{ℕ, _*_, _<_, _≤_}
-use mathlib.Core.Path.{_≡_, refl, sym, _∙_, ap, subst}
+use Prim.Native.Nat.{ℕ, _<_}
+use mathlib.Core.Path.{_≡_, refl, sym, _∙_, ap}
 use mathlib.Core.Bool.{true, false}
 use mathlib.Core.List.{List}
 use native.Mathlib.Omega.{arith}
@@ -8,15 +8,14 @@ use borrow.Author.Needs.{needs}
 use lib.ListN.{length, getD, set, drop}
 use Rattle.tmcc.specs.declared.layout.Layout.{Layout}
 use Rattle.reassembly.specs.Channel.{unheard}
-use Rattle.reassembly.specs.declared.config.Config.{Config}
-use Rattle.delivery.specs.Packet.{arrivedAt, placeOf, Fits}
+use Rattle.delivery.specs.Packet.{arrivedAt, placeOf}
 use Rattle.delivery.specs.Within.{arrived-below, arrived-fits}
 use Rattle.receiver.specs.Next.{short-room}
 use Rattle.totals.specs.declared.packet.Delivered.{Delivered}
 use Rattle.totals.specs.declared.quick.Class.{Class}
 use Rattle.totals.specs.declared.run.Run.{Run}
 use Rattle.totals.specs.declared.run.Step.{Step}
-use Rattle.totals.specs.declared.run.Turn.the-variants.{On, Packet as Deliver, Slot, End}
+use Rattle.totals.specs.declared.run.Turn.the-variants.{Packet as Deliver}
 use Rattle.totals.specs.Quick.{heardCount, pieceCount, goesOn, class-place, message-whole, heard-delivered, going-delivered}
 use Rattle.totals.specs.Run.{countOf, stepOf}
 use Rattle.totals.specs.Runs.{Took, tookOf, isPast}
