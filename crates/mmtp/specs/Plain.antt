@@ -18,9 +18,9 @@ use Rattle.mmtp.specs.declared.payload.FragmentType.the-variants.{Kind}
 use Rattle.mmtp.specs.declared.payload.Payload.{Payload}
 use Rattle.mmtp.specs.declared.payload.PayloadRead.the-variants.{Good as GoodBody}
 use Rattle.mmtp.specs.declared.watch.Watch.{Watch}
-use Rattle.mmtp.specs.declared.watch.Found.the-variants.{At, Nothing}
+use Rattle.mmtp.specs.declared.watch.Found.the-variants.{At}
 use Rattle.mmtp.specs.declared.packet.Packet.{Packet}
-use Rattle.mmtp.specs.declared.packet.Reading.the-variants.{Silent, Good}
+use Rattle.mmtp.specs.declared.packet.Reading.the-variants.{Good}
 use Rattle.mmtp.specs.Watch.{lookupOf}
 use Rattle.mmtp.specs.Flow.{flowOf, compressedHeader, type-3, own-cid, behind-whole}
 use Rattle.mmtp.specs.Header.{first, payloadStart, headerOf, plain-good, no-counter, no-extension, header-good}
@@ -38,7 +38,7 @@ use Rattle.mmtp.specs.Payload.{
   units-single,
 }
 use Rattle.mmtp.specs.Unit.{fieldBytes, singleFits}
-use Rattle.mmtp.specs.Packet.{readingOf, bodyRead, unwatched, watched}
+use Rattle.mmtp.specs.Packet.{readingOf, bodyRead, watched}
 
 -- type 3, the CID, header type 0x61; then the MMTP packet: version, C and FEC 0, X 0
 unfoldable pub plainOf : List ℕ → ℕ → Bool
@@ -205,9 +205,6 @@ module _ (p : List ℕ) (cid : ℕ) (h : plainOf p cid ≡ true) where
       ∙ rw (s, getD-drop 7 p 1 0, be-drop 2 7 p 2, be-drop 4 7 p 8)
 
   module _ (w : Watch) where
-    pub plain-unwatched : lookupOf w (be 2 p 9) ≡ Nothing → readingOf (drop 7 p) w ≡ Silent
-    plain-unwatched n = unwatched (drop 7 p) w (plainHeader p) plain-header n
-
     pub plain-watched : (k : ℕ) → lookupOf w (be 2 p 9) ≡ At k
         → readingOf (drop 7 p) w ≡ bodyRead k (plainHeader p) (payloadOf (drop 7 p) 12 (bitsAt 0 6 (getD p 8 0)))
     plain-watched k l = watched (drop 7 p) w (plainHeader p) plain-header k l

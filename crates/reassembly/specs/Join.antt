@@ -198,7 +198,7 @@ waiting-phase Waiting e = refl
 waiting-phase Idle e = cc
 waiting-phase Open e = cc
 
--- FI 10 that is passed over: its unit's beginning is missing, and no packet since
+-- FI 10 that is passed over: its unit is not collected any more, and no packet is missing since
 unfoldable pub passesOver : Channel → Psn → Bool
 passesOver ch psn = eqb (psn .0) (nextPsn (ch .last) .0) && isWaiting (ch .phase)
 

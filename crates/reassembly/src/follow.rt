@@ -1,4 +1,4 @@
-// A piece that simply follows the open unit: most pieces of a long unit do.
+// A piece from the middle of its unit that simply follows the open unit, or is passed over.
 ghost use mathlib.Core.Path.{_≡_};
 ghost use Prim.Native.Nat.{_+_, _<_};
 ghost use Rattle.reassembly.specs.Join.{isOpen, followsOn, isWaiting, passesOver, longer};

@@ -86,6 +86,19 @@ ends-one {p = p} {b = b} {u = u} {q' = q'} {e' = e'} (goes x d r k g n) (goes y 
     let o : Ends (k .session) (k .packet) (x .1) (drop (sizeOf b) b) u q' e' = rw (j, z) at m in
     ends-one n o
 
+-- so there is one answer
+pub totalled-one : (c b e e' : List ℕ) (f u n y f' u' n' y' : ℕ) → Totalled c b e f u n y → Totalled c b e' f' u' n' y'
+    → (e ≡ e') × (f ≡ f') × (u ≡ u') × (n ≡ n') × (y ≡ y')
+totalled-one c b e e' f u n y f' u' n' y' x z =
+    let w = ends-one (x .1 .1) (z .1 .1) in
+    let t = w .0 in (
+      w .2,
+      x .2 ∙ ap (λ (i : Tally). i .frames) t ∙ sym (z .2),
+      x .3 ∙ ap (λ (i : Tally). i .units) t ∙ sym (z .3),
+      x .4 ∙ ap (λ (i : Tally). i .notes) t ∙ sym (z .4),
+      x .5 ∙ ap (λ (i : Tally). i .bytes) t ∙ sym (z .5),
+    )
+
 -- the last line has these totals
 pub ends-text : (s : Session) (p c b : List ℕ) (t : Tally) (q e : List ℕ) → Ends s p c b t q e
     → (x : List ℕ) × (textOf s p c b ≡ x ++ lastLine t)

@@ -76,7 +76,8 @@ pub record Others (c : Config) (x : Class) (p : List ℕ) (collecting : ℕ) (t 
   pub fits : Fits (arrivedAt c p (t .start) (t .end)) (c .limit) collecting
   pub id : t .run .id < 65536
 
--- from s with both memories and the bytes b to come, to a session that has read some of them, owes nothing and ends the same
+-- from s with both memories and the bytes b to come, to a session that has read none or some of them and ends the same; it owes
+-- nothing where s does not
 pub record Onward (s : Session) (p c b : List ℕ) (r : Stepped) (q d : List ℕ) : Type 0 where
   pub within : r .read ≤ length b
   pub calm : busy s ≡ false → busy (r .session) ≡ false

@@ -92,8 +92,8 @@ classOf c p start end =
     classBy (quickPlace c b) b (placeOf (arrivedAt c p start end))
 
 -- nothing of it is collected: a whole message, or a piece from the middle of its unit that is passed over
-unfoldable pub isHeard : Class → Channel → Bool
-isHeard x ch = x .message || (x .middle && passesOver ch (x .psn))
+unfoldable pub storesNothing : Class → Channel → Bool
+storesNothing x ch = x .message || (x .middle && passesOver ch (x .psn))
 
 abbrev pub heardIn : Class → Channel → Channel
 heardIn x ch = record { phase = cond (x .message) Idle (ch .phase); last = x .psn; current = ch .current }
@@ -376,8 +376,8 @@ module _ (c : Config) (p : List ℕ) (start end : ℕ) where
           sym (fragment-joined ch limit (f .0) coll n _ (joined-over ch (fragmentPiece x b) limit o (f .1))
           ∙ rw (counted-empty (emptied (be 2 b 9)) p (n .tally) refl, y))
 
-      pub heard-delivered : isHeard x ch ≡ true → (record { channel = heardIn x ch; count = heardCount x ch n }, coll) ≡ delivered
-      unfolding isHeard heardWhole
+      pub heard-delivered : storesNothing x ch ≡ true → (record { channel = heardIn x ch; count = heardCount x ch n }, coll) ≡ delivered
+      unfolding storesNothing heardWhole
       heard-delivered h = go (x .message) refl h
         where
           go : (t : Bool) → x .message ≡ t → (t || (x .middle && passesOver ch (x .psn))) ≡ true

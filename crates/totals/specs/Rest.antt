@@ -39,7 +39,7 @@ use Rattle.totals.specs.Run.{flag, isOn, on-flag, heldOf, cursorOf, tall
 use Rattle.totals.specs.Ends.{Ends, ends-drained}
 use Rattle.totals.specs.Runs.{runSession, isPast, after-past, run-past, run-left}
 
--- the cursor is at rest
+-- the cursor is at rest; the packet_id has 16 bits
 pub record AtRest (r : Run) : Type 0 where
   pub note : r .note ≡ 0
   pub packet : r .packet ≡ 0
@@ -111,7 +111,7 @@ sessionOf x =
 abbrev pub leftOf : Parts → ℕ → Stepped
 leftOf x n = record { session = sessionOf x; read = n }
 
--- parts at rest, with memories that are long enough
+-- parts at rest, with the watch list's table and memories that are long enough
 pub record Still (x : Parts) (packet collecting : ℕ) : Type 0 where
   pub table : x .table ≡ tableOf (x .config .watch)
   pub rest : AtRest (x .run)

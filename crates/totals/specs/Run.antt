@@ -152,12 +152,6 @@ on-flag true = refl
 on-flag false = refl
 
 -- what was set is read again
-pub held-intake : (r : Run) (i : Intake) → heldOf (withIntake r i) ≡ i .held
-held-intake r i = rw (on-flag (i .held .on))
-
-pub count-set : (r : Run) (n : Count) → countOf (withCount r n) ≡ n
-count-set r n = refl
-
 pub cursor-set : (r : Run) (c : Cursor) → Fit c → cursorOf (withCursor r c) ≡ c
 cursor-set r c f = rw f
 

@@ -8,7 +8,7 @@ use delivery::queue::Give;
 use delivery::queue::Queue;
 use delivery::queue::take;
 
-// The totals so far, and the packet_id of the last packet that gave a note or was joined.
+// The totals so far, and the packet_id of the queue, which is empty.
 pub struct Count {
     pub tally: Tally,
     pub packet_id: u16,

@@ -19,6 +19,14 @@ use reassembly::follow::lengthen;
 use reassembly::join::Piece;
 use reassembly::unit::Unit;
 
+// The bytes of the packet that a turn comes to.
+pub fn bytes_of(packet: &[u8], step: Step) -> &[u8]
+    ensures { λ r. ⌜ now r ≡ bytesOf (now (packet .entry)) step ⌝ }
+{
+    let len = wire::memory::distance(step.start, step.end);
+    wire::memory::part(packet, step.start, len)
+}
+
 // The piece that a packet brings.
 pub fn piece(c: Class, b: &[u8]) -> Piece
     requires { ⌜ (41 ≤ length (now b)) × (c .len ≡ length (now b)) ⌝ }
@@ -51,8 +59,7 @@ pub fn goes_on(config: Config, c: Class, channel: Channel, packet: &[u8], step: 
     if !c.middle {
         return false;
     }
-    let len = wire::memory::distance(step.start, step.end);
-    let b = wire::memory::part(packet, step.start, len);
+    let b = bytes_of(packet, step);
     let p = piece(c, b);
     follows(channel, p, config.limit)
 }
@@ -65,8 +72,7 @@ pub fn go_on(config: Config, c: Class, channel: Channel, packet: &[u8], step: St
         ⌝ }
     ensures { λ r. ⌜ r ≡ goneOn c channel (bytesOf (now (packet .entry)) step) ⌝ }
 {
-    let len = wire::memory::distance(step.start, step.end);
-    let b = wire::memory::part(packet, step.start, len);
+    let b = bytes_of(packet, step);
     let p = piece(c, b);
     lengthen(channel, p)
 }
@@ -85,8 +91,7 @@ pub fn collect(
     ensures { λ r. ⌜ ((r, now (collecting .exit))
         ≡ collectedAt config c channel (now (packet .entry)) (now (collecting .entry)) step) × (r .id < 65536) ⌝ }
 {
-    let len = wire::memory::distance(step.start, step.end);
-    let b = wire::memory::part(packet, step.start, len);
+    let b = bytes_of(packet, step);
     let current = channel.current;
     wire::memory::copy_at(collecting, c.place * config.limit + current.len, &b[41..]);
     let run = step.run;

@@ -4,7 +4,7 @@ ghost use mathlib.Core.Bool.{true, cond};
 ghost use Prim.Native.Nat.{_≤_, _<_};
 ghost use Rattle.reassembly.specs.declared.channel.Phase.the-variants.{Idle};
 ghost use Rattle.totals.specs.Run.{countOf, withCount};
-ghost use Rattle.totals.specs.Quick.{isHeard, heardIn, messageCount, pieceCount, heardCount};
+ghost use Rattle.totals.specs.Quick.{storesNothing, heardIn, messageCount, pieceCount, heardCount};
 use crate::count::Count;
 use crate::packet::count_note;
 use crate::quick::Class;
@@ -17,8 +17,8 @@ use reassembly::channel::Phase;
 use reassembly::follow::passes_over;
 use reassembly::join::hear_whole;
 
-pub fn is_heard(c: Class, channel: Channel) -> bool
-    ensures { λ r. ⌜ r ≡ isHeard c channel ⌝ }
+pub fn stores_nothing(c: Class, channel: Channel) -> bool
+    ensures { λ r. ⌜ r ≡ storesNothing c channel ⌝ }
 {
     if c.message {
         return true;

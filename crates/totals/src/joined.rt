@@ -8,6 +8,7 @@ ghost use Rattle.totals.specs.Count.{overBy};
 ghost use Rattle.totals.specs.Onward.{Others, deliveredWith};
 ghost use Rattle.totals.specs.Joined.{actionCount, stepCount};
 use crate::count::Count;
+use crate::fragment::bytes_of;
 use crate::fragment::piece;
 use crate::packet::Delivered;
 use crate::packet::count_note;
@@ -70,8 +71,7 @@ pub fn deliver_fragment(
     ensures { λ r. ⌜ (r, now (collecting .exit))
         ≡ deliveredWith config channel (now (packet .entry)) (now (collecting .entry)) step before ⌝ }
 {
-    let len = wire::memory::distance(step.start, step.end);
-    let b = wire::memory::part(packet, step.start, len);
+    let b = bytes_of(packet, step);
     let p = piece(c, b);
     let j = join(channel, p, config.limit);
     let unit = p.unit;

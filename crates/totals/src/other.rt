@@ -1,4 +1,4 @@
-// Any packet, delivered by the general way.
+// Any packet: a piece of a timed MFU by its step, another by the general way.
 ghost use mathlib.Core.Path.{_≡_};
 ghost use lib.ListN.{length};
 ghost use Rattle.totals.specs.Onward.{Others, deliveredWith, deliveredAt};

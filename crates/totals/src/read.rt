@@ -13,7 +13,7 @@ use capture::session::Phase;
 use capture::session::Session;
 use capture::session::Tally;
 
-// The session behind a command, and how many bytes the command had.
+// The session behind some commands, and how many bytes these had.
 pub struct Stepped {
     pub session: Session,
     pub read: usize,
@@ -53,7 +53,7 @@ fn step(session: Session, b: &[u8], packet: &mut [u8], collecting: &mut [u8]) ->
     Stepped { session, read: n }
 }
 
-// Command by command, but slots that follow each other at one go.
+// Command by command, but slots and frames that follow each other at one go.
 fn read_with(capture: &[u8], packet: &mut [u8], collecting: &mut [u8]) -> Tally
     ensures { λ r. ⌜ Ends freshSession (now (packet .entry)) (now (collecting .entry)) (now (capture .entry)) r
         (now (packet .exit)) (now (collecting .exit)) ⌝ }

@@ -25,13 +25,13 @@ pub struct Run {
     pub on: usize,
     pub start: usize,
     pub len: usize,
-    // The totals; shown is the slot of the last event.
+    // The totals; shown is the slot of the events that next gives.
     pub frames: u64,
     pub shown: u64,
     pub units: u64,
     pub notes: u64,
     pub bytes: u64,
-    // The packet_id of the last packet that gave a note or was joined.
+    // The packet_id of the queue, which is empty.
     pub id: usize,
     // Not 0 where no slot follows.
     pub stop: usize,

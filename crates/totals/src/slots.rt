@@ -1,4 +1,4 @@
-// Slots, given or lost, one after the other, and next after each until nothing waits.
+// Slots, given or lost, and frames, one after the other, and next after each slot until nothing waits.
 ghost use mathlib.Core.Path.{_≡_};
 ghost use Prim.Native.Nat.{_<_};
 ghost use lib.ListN.{length};
@@ -13,7 +13,7 @@ use crate::frames::in_frame;
 use crate::frames::next_frame;
 use crate::heard::count_heard;
 use crate::heard::hear;
-use crate::heard::is_heard;
+use crate::heard::stores_nothing;
 use crate::other::deliver_other;
 use crate::quick::classify;
 use crate::read::Stepped;
@@ -197,7 +197,7 @@ fn with_run(parts: Parts, channels: [Channel; 16], run: Run) -> Parts
     }
 }
 
-// Each turn delivers a packet, or takes a slot. Most packets change two or three fields of their channel: they have branches of
+// Each turn counts a note, holds a tail, delivers a packet or takes a slot. Most packets change two or three fields of their channel: they have branches of
 // their own, so that no more than these are stored.
 fn read_run(parts: Parts, b: &[u8], packet: &mut [u8], collecting: &mut [u8]) -> Parts
     requires { ⌜ Ready parts (length (now packet)) (length (now collecting)) ⌝ }
@@ -218,7 +218,7 @@ fn read_run(parts: Parts, b: &[u8], packet: &mut [u8], collecting: &mut [u8]) ->
                 let c = classify(parts.config, &parts.table, packet, step.start, step.end);
                 let k = c.place;
                 let channel = channels[k];
-                if is_heard(c, channel) {
+                if stores_nothing(c, channel) {
                     channels[k] = hear(c, channel);
                     run = count_heard(run, c, channel);
                 } else if goes_on(parts.config, c, channel, packet, step) {

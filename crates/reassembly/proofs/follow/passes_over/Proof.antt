@@ -1,5 +1,4 @@
 -- Why passes_over meets its contract: its tests in the definition's order.
-use mathlib.Core.Path.{_≡_}
 use borrow.Author.Tests.{eq-eqb, ne-eqb}
 use borrow.Author.Needs.{needs}
 use Rattle.reassembly.specs.Join.{passesOver}

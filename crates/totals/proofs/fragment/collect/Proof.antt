@@ -1,47 +1,38 @@
 -- Why `collect` meets its contract: there is room for the piece, and it is copied behind the open unit.
-use Prim.Native.Nat.{_+_, _-_, _*_, _≤_, _<_}
+use Prim.Native.Nat.{_+_, _*_, _≤_, _<_}
 use mathlib.Core.Path.{_≡_, sym, _∙_}
 use native.Mathlib.Omega.{arith}
 use lib.ListN.{length, drop, length-take, length-drop}
 use Rattle.delivery.specs.Within.{pasted-take}
 use Rattle.totals.specs.Quick.{goes-on, going-room, middle-whole}
-use Rattle.totals.specs.Onward.{bytesOf}
 use borrow.Author.Needs.{needs}
 use Rattle.totals.proofs.fragment.collect.Statement.{statement}
 use Rattle.totals.proofs.fragment.collect.Tie as tie
 
--- the piece's bytes
-bytes : (d : tie.After-part) → let a = d .before .before .before .before .args in
-    d .part .result .now ≡ bytesOf (a .packet .now) (a .step)
-bytes d = rw (d .part .ensures, d .before .distance .ensures)
-
-whole : (d : tie.After-part) → let b = d .part .result .now in
-    (41 ≤ length b) × (d .before .before .before .before .args .c .len ≡ length b)
+whole : (d : tie.After-bytes-of) → let b = d .bytes-of .result .now in
+    (41 ≤ length b) × (d .before .before .before .args .c .len ≡ length b)
 whole d =
-    let a = d .before .before .before .before in
+    let a = d .before .before .before in
     let e = sym (a .pre .0 .class) in
-    rw (bytes d) (middle-whole _ _ _ _ _ e (goes-on _ _ _ _ _ e _ _ (a .pre .1) .0))
+    rw (d .bytes-of .ensures) (middle-whole _ _ _ _ _ e (goes-on _ _ _ _ _ e _ _ (a .pre .1) .0))
 
-room : (d : tie.After-part) → let a = d .before .before .before .before .args in
+room : (d : tie.After-bytes-of) → let a = d .before .before .before .args in
     a .c .place * a .config .limit + a .channel .current .len + (a .c .len - 41) ≤ length (a .collecting .now)
 room d =
-    let a = d .before .before .before .before in
+    let a = d .before .before .before in
     going-room _ _ _ _ _ (sym (a .pre .0 .class)) _ _ (a .pre .1) _ (a .pre .0 .fits)
 
 -- so places there are numbers
-reach : (d : tie.After-part) → let a = d .before .before .before .before .args in
+reach : (d : tie.After-bytes-of) → let a = d .before .before .before .args in
     let base = a .c .place * a .config .limit in
     (base < 18446744073709551616) × (base + a .channel .current .len < 18446744073709551616)
 reach d =
     let r = room d in
-    let k = d .before .before .before .before .good .1 .1 .1 .1 .0 in
+    let k = d .before .before .before .good .1 .1 .1 .1 .0 in
     (omega (arith, r, k), omega (arith, r, k))
 
-distance-requires : tie.Need-distance-requires
-distance-requires c κs = search needs
-
-part-requires : tie.Need-part-requires
-part-requires c κs = search needs
+bytes-of-requires : tie.Need-bytes-of-requires
+bytes-of-requires c κs = search needs
 
 mul-copy-at : tie.Need-mul-copy-at
 mul-copy-at c = record { fits = reach (c .before .before .before .before) .0 }
@@ -63,7 +54,7 @@ part-copy-at-end c = search needs
 copy-at-requires : tie.Need-copy-at-requires
 copy-at-requires c κs =
     let d = c .before .before .before .before .before .before in
-    let b = d .part .result .now in
+    let b = d .bytes-of .result .now in
     omega (arith, room d, whole d .1, length-take (length b - 41) (drop 41 b), length-drop 41 b)
 
 count-of-requires : tie.Need-count-of-requires
@@ -83,14 +74,14 @@ returns c =
     let n = c .before in
     let k = n .before .before .before .before .before in
     let d = k .before .before .before .before .before .before .before in
-    let b = d .part .result .now in
+    let b = d .bytes-of .result .now in
     let h : length b - 41 ≤ length (drop 41 b) = rw length-drop (omega arith) in (
       rw (
         c .with-count .ensures .0,
         n .count-piece .ensures,
         n .before .count-of .ensures,
         k .copy-at .ensures ∙ pasted-take _ _ _ _ h,
-        bytes d,
+        d .bytes-of .ensures,
       ),
       c .with-count .ensures .1,
     )
@@ -99,8 +90,7 @@ pub collect-spec : {M : Type 1} → statement M
 collect-spec =
     tie.close
     (tie.spec
-    distance-requires
-    part-requires
+    bytes-of-requires
     mul-copy-at
     add-copy-at
     sub-copy-at

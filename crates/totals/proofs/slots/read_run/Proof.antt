@@ -100,8 +100,8 @@ mul-channel c = record { fits = omega (arith, below c) }
 array-copy-out-channel : tie.Need-array-copy-out-channel Inv-loop μ-loop
 array-copy-out-channel c = below c
 
-is-heard-requires : tie.Need-is-heard-requires Inv-loop μ-loop
-is-heard-requires c κs = search needs
+stores-nothing-requires : tie.Need-stores-nothing-requires Inv-loop μ-loop
+stores-nothing-requires c κs = search needs
 
 -- a packet and its class, and room for it
 others : (k : tie.After-classify Inv-loop μ-loop) → let d = nextOf k in let l = d .before .before .loop in
@@ -148,7 +148,7 @@ heard-on c =
     record { channel = c .before .hear .result; count = heardCount (k .classify .result) h (countOf (x .run)) } in
     let e : (v, l .collecting) ≡ deliveredAt (startOf d .args .t1 .config) h (l .packet) (l .collecting) x =
     rw (c .before .hear .ensures)
-    (heard-delivered _ _ _ _ _ (sym (k .classify .ensures)) _ _ _ _ (sym (i .is-heard .ensures) ∙ t .if1 .taken)) in
+    (heard-delivered _ _ _ _ _ (sym (k .classify .ensures)) _ _ _ _ (sym (i .stores-nothing .ensures) ∙ t .if1 .taken)) in
     rw (c .count-heard .ensures .0)
     (going-packet _ _ _ _ _ _ _ _ (l .inv .0) x (stepped d) (comes k) _ (place-is k) v (l .collecting)
     e refl (rw (c .count-heard .ensures .0) at (c .count-heard .ensures .1)))
@@ -396,7 +396,7 @@ read-run-spec =
     classify-requires
     mul-channel
     array-copy-out-channel
-    is-heard-requires
+    stores-nothing-requires
     hear-requires
     mul-channels
     array-set-from-channels
