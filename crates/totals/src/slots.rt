@@ -197,8 +197,8 @@ fn with_run(parts: Parts, channels: [Channel; 16], run: Run) -> Parts
     }
 }
 
-// Each turn counts a note, holds a tail, delivers a packet or takes a slot. Most packets change two or three fields of their channel: they have branches of
-// their own, so that no more than these are stored.
+// Each turn counts a note, holds a tail, delivers a packet or takes a slot. Most packets change two or three fields of their
+// channel: they have branches of their own, so that no more than these are stored.
 fn read_run(parts: Parts, b: &[u8], packet: &mut [u8], collecting: &mut [u8]) -> Parts
     requires { ⌜ Ready parts (length (now packet)) (length (now collecting)) ⌝ }
     ensures { λ r. ⌜ Ran parts (now (packet .entry)) (now (collecting .entry)) (now (b .entry)) r
