@@ -10,7 +10,8 @@ use lib.Seq.{take-append-add, length-take-le}
 use lib.Dec.{eqb, ltb}
 use borrow.Author.Tests.{eqb-true, eqb-false, ltb-true, ltb-false, ne-eqb}
 use Rattle.tlv.specs.declared.held.Continuation.{Continuation}
-use Rattle.tlv.specs.declared.held.Continuation.the-variants.{TooLong, Misfit, Ends, GoesOn}
+use Rattle.tlv.specs.declared.note.SlotNote.the-variants.{Misfit, TooLong}
+use Rattle.tlv.specs.declared.held.Continuation.the-variants.{Dropped, Ends, GoesOn}
 use Rattle.tlv.specs.Packet.{total, complete, maxPacket}
 use Rattle.tlv.specs.Cuts.{total-bytes, total-append, total-take, complete-if, short-packet, short-header, Sized}
 use Rattle.tlv.specs.Slot.{none, sound}
@@ -22,8 +23,7 @@ endOf [] b = 0
 endOf (x ∷ h) b = heldEnd (x ∷ h) b
 
 abbrev pub Says : Continuation → Bool → List ℕ → List ℕ → ℕ → Type 0
-Says TooLong n h b top = Unit {0}
-Says Misfit n h b top = Unit {0}
+Says (Dropped x) n h b top = Unit {0}
 Says (Ends e) n h b top = (endOf h b ≡ e) × (e ≡ cond n (length b) top)
 Says GoesOn true h b top = (0 < length h) × (length b < heldEnd h b)
 Says GoesOn false h b top = ⊥
@@ -33,7 +33,7 @@ within : (h b : List ℕ) (top : ℕ) (n : Bool) → eqb top none ≡ n → endO
 unfolding endWithin
 within h b top n m l = go n (eqb (endOf h b) top) m refl
   where
-    go : (n z : Bool) → eqb top none ≡ n → eqb (endOf h b) top ≡ z → Says (cond z (Ends (endOf h b)) Misfit) n h b top
+    go : (n z : Bool) → eqb top none ≡ n → eqb (endOf h b) top ≡ z → Says (cond z (Ends (endOf h b)) (Dropped Misfit)) n h b top
     go n false m e = tt
     go true true m e = absurd (omega (arith, eqb-true))
     go false true m e = (refl, eqb-true _ _ e)
@@ -48,7 +48,7 @@ module _ (x : ℕ) (h b : List ℕ) (top last : ℕ) where
   beyond = go (ltb end (length b)) (eqb end (length b)) (eqb last (length b)) refl refl
     where
       go : (i z l : Bool) → ltb end (length b) ≡ i → eqb end (length b) ≡ z
-          → Says (cond i Misfit (cond z (cond l (Ends end) Misfit) (cond l Misfit GoesOn))) true (x ∷ h) b top
+          → Says (cond i (Dropped Misfit) (cond z (cond l (Ends end) (Dropped Misfit)) (cond l (Dropped Misfit) GoesOn))) true (x ∷ h) b top
       go true z l u v = tt
       go false true true u v = (refl, eqb-true _ _ v)
       go false true false u v = tt
@@ -62,7 +62,7 @@ says (x ∷ h) b top last =
     rw (ne-eqb (length (x ∷ h)) 0 (omega arith)) (go (ltb maxPacket (heldTotal (x ∷ h) b)) (eqb top none) refl refl)
   where
     go : (l n : Bool) → ltb maxPacket (heldTotal (x ∷ h) b) ≡ l → eqb top none ≡ n
-        → Says (cond l TooLong (cond n (endBeyond (heldEnd (x ∷ h) b) (length b) last) (endWithin (heldEnd (x ∷ h) b) top)))
+        → Says (cond l (Dropped TooLong) (cond n (endBeyond (heldEnd (x ∷ h) b) (length b) last) (endWithin (heldEnd (x ∷ h) b) top)))
         n (x ∷ h) b top
     go true n l m = tt
     go false true l m = beyond x h b top last

@@ -7,7 +7,8 @@ use mathlib.Core.List.{List, [], _∷_, _++_, map}
 use native.Mathlib.Omega.{arith}
 use lib.ListN.{take, drop}
 use Rattle.tlv.specs.declared.held.Continuation.{Continuation}
-use Rattle.tlv.specs.declared.held.Continuation.the-variants.{TooLong, Misfit, Ends, GoesOn}
+use Rattle.tlv.specs.declared.held.Continuation.the-variants.{Dropped, Ends, GoesOn}
+use Rattle.tlv.specs.Notes.{numberOf}
 use Rattle.tlv.specs.Packet.{cut}
 use Rattle.tlv.specs.Slot.{sound}
 use Rattle.tlv.specs.Run.{Slot, Labelled, Event, note, State, searching, held, Stepped, lost, given}
@@ -109,8 +110,7 @@ module _ {A : Type 0} (keep : A → Bool) where
     module _ (ls : List A) (h : List ℕ) (m : all keep (ls ++ (a ∷ [])) ≡ b) where
       resumed-gives : (c : Continuation) (n : Bool) (s : Slot) → Gives b (resumed c n ls h a s)
       unfolding resumed
-      resumed-gives TooLong n s = note-gives b 43 _ (read-gives n s)
-      resumed-gives Misfit n s = note-gives b 42 _ (read-gives n s)
+      resumed-gives (Dropped x) n s = note-gives b (numberOf x) _ (read-gives n s)
       resumed-gives (Ends e) true s = gives (finished-left b ls h a _ m) (carries-none b)
       resumed-gives (Ends e) false s =
           let c : List ℕ = take e (s .bytes) in
@@ -154,8 +154,7 @@ module _ {A : Type 0} (keep : A → Bool) where
   resumed-adrift : (c : Continuation) (n : Bool) (ls : List A) (h : List ℕ) (a : A) (s : Slot) → keep a ≡ true
       → Carries false (held ls h) → Says c n h (s .bytes) (s .top) → Steps (resumed c n ls h a s) (readFrom n a s)
   unfolding resumed readFrom
-  resumed-adrift TooLong n ls h a s k c m = again (read-gives true a k n s)
-  resumed-adrift Misfit n ls h a s k c m = again (read-gives true a k n s)
+  resumed-adrift (Dropped x) n ls h a s k c m = again (read-gives true a k n s)
   resumed-adrift (Ends e) true ls h a s k c m = (adrift refl tt, sym (finished-lost ls h a (take e (s .bytes)) c))
   resumed-adrift (Ends e) false ls h a s k c m =
       let b : List ℕ = take e (s .bytes) in

@@ -8,7 +8,7 @@ use native.Mathlib.Omega.{arith}
 use lib.ListN.{length, take, drop, take-append-drop, drop-of-length-le}
 use lib.Seq.{length-take-le, drop-append-le}
 use Rattle.tlv.specs.declared.held.Continuation.{Continuation}
-use Rattle.tlv.specs.declared.held.Continuation.the-variants.{TooLong, Misfit, Ends, GoesOn}
+use Rattle.tlv.specs.declared.held.Continuation.the-variants.{Dropped, Ends, GoesOn}
 use Rattle.tlv.specs.Packet.{complete, tooLong, cut}
 use Rattle.tlv.specs.Cuts.{short-header, cut-tail-open, cut-sized, AllSized}
 use Rattle.tlv.specs.Slot.{sound}
@@ -154,8 +154,7 @@ module _ {A : Type 0} (keep : A → Bool) where
       → (n ≡ false → s .top < length (s .bytes)) → 0 < length (s .bytes) → Clean (resumed c n ls (bytesOf t) a s .events)
       → Reads (t ++ tagged a (s .bytes)) (resumed c n ls (bytesOf t) a s)
   unfolding resumed
-  resumed-reads TooLong n ls t a s o l m i p q = absurd q
-  resumed-reads Misfit n ls t a s o l m i p q = absurd q
+  resumed-reads (Dropped x) n ls t a s o l m i p q = absurd q
   resumed-reads (Ends e) true ls t a s o l m i p q =
       record {
         tail = [];

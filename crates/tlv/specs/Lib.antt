@@ -1,4 +1,5 @@
 -- The definitions of slots and TLV packets, their laws, the specimens, and what is claimed of slots to packets.
+pub mod Notes
 pub mod Packet
 pub mod Cuts
 pub mod Walks

@@ -6,10 +6,13 @@ use mathlib.Core.List.{List, [], _∷_, _++_, map}
 use lib.ListN.{take, drop}
 use lib.Dec.{eqb}
 use Rattle.tlv.specs.declared.held.Continuation.{Continuation}
-use Rattle.tlv.specs.declared.held.Continuation.the-variants.{TooLong, Misfit, Ends, GoesOn}
+use Rattle.tlv.specs.declared.note.SlotNote.{SlotNote}
+use Rattle.tlv.specs.declared.note.SlotNote.the-variants.{Lost, Unsound, TooLong}
+use Rattle.tlv.specs.declared.held.Continuation.the-variants.{Dropped, Ends, GoesOn}
 use Rattle.tlv.specs.Packet.{cut, tooLong}
 use Rattle.tlv.specs.Slot.{none, sound}
 use Rattle.tlv.specs.Held.{continuationOf}
+use Rattle.tlv.specs.Notes.{numberOf}
 
 -- an own live slot: its pointers and its data
 pub record Slot : Type 0 where
@@ -47,6 +50,9 @@ module _ {A : Type 0} where
   abbrev pub packetOf : List A → List ℕ → Event A
   packetOf ls b = packet (record { labels = ls; bytes = b })
 
+  abbrev pub noted : SlotNote → List (Event A)
+  noted n = note (numberOf n) ∷ []
+
   abbrev pub after : List (Event A) → Stepped A → Stepped A
   after es r = record { state = r .state; events = es ++ r .events }
 
@@ -55,7 +61,7 @@ module _ {A : Type 0} where
 
   -- "a tail is held, but one whose known total is above 16,384 gives 43"
   unfoldable pub kept : Bool → A → List ℕ → Stepped A
-  kept true a b = stops (note 43 ∷ [])
+  kept true a b = stops (noted TooLong)
   kept false a b = record { state = held (a ∷ []) b; events = [] }
 
   -- "Then packets are read from t": by whether there is no top pointer
@@ -72,22 +78,21 @@ module _ {A : Type 0} where
 
   -- a sound slot comes to held bytes: by what becomes of their packet, and by whether there is no top pointer
   unfoldable pub resumed : Continuation → Bool → List A → List ℕ → A → Slot → Stepped A
-  resumed TooLong n ls h a s = after (note 43 ∷ []) (readFrom n a s)
-  resumed Misfit n ls h a s = after (note 42 ∷ []) (readFrom n a s)
+  resumed (Dropped x) n ls h a s = after (noted x) (readFrom n a s)
   resumed (Ends e) true ls h a s = record { state = held [] []; events = finished ls h a (take e (s .bytes)) }
   resumed (Ends e) false ls h a s = after (finished ls h a (take e (s .bytes))) (readFrom false a s)
   resumed GoesOn n ls h a s = record { state = held (ls ++ (a ∷ [])) (h ++ s .bytes); events = [] }
 
   -- by whether the slot is sound; "an unsound one gives 41, makes it searching, and nothing is read from it"
   unfoldable pub arrived : Bool → State A → A → Slot → Stepped A
-  arrived false st a s = stops (note 41 ∷ [])
+  arrived false st a s = stops (noted Unsound)
   arrived true searching a s = readFrom (withoutTop s) a s
   arrived true (held ls h) a s = resumed (continuationOf h (s .bytes) (s .top) (s .last)) (withoutTop s) ls h a s
 
   -- "A lost slot makes it searching, with note 40 if it wasn't"
   unfoldable pub step : State A → Arrival A → Stepped A
   step searching lost = stops []
-  step (held ls h) lost = stops (note 40 ∷ [])
+  step (held ls h) lost = stops (noted Lost)
   step searching (given a s) = arrived (sound (s .bytes) (s .top) (s .last)) searching a s
   step (held ls h) (given a s) = arrived (sound (s .bytes) (s .top) (s .last)) (held ls h) a s
 

@@ -9,6 +9,8 @@ use borrow.Author.Tests.{lt-ltb, le-ltb, eq-eqb, ne-eqb}
 use Rattle.tlv.specs.declared.packet.Walked.the-variants.{Unmarked, Tail as TailAt}
 use Rattle.tlv.specs.Packet.{cut, walkOf}
 use Rattle.tlv.specs.Walks.{unmarked-bad, tail-good}
+use Rattle.tlv.specs.declared.note.SlotNote.the-variants.{Unsound}
+use Rattle.tlv.specs.Notes.{numberOf}
 
 -- the pointer that says "none"
 abbrev pub none : ℕ
@@ -29,7 +31,7 @@ sound s top last =
 
 -- the note of an own live slot by itself: 41 if it is unsound; 0 for none
 unfoldable pub slotNote : List ℕ → ℕ → ℕ → ℕ
-slotNote s top last = cond (sound s top last) 0 41
+slotNote s top last = cond (sound s top last) 0 (numberOf Unsound)
 
 -- its cases, by the top pointer and by where the walk comes to
 module _ (s : List ℕ) (top last : ℕ) where

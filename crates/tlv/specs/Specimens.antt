@@ -4,7 +4,8 @@ use mathlib.Core.Path.{_≡_, refl}
 use mathlib.Core.Bool.{true, false}
 use mathlib.Core.List.{List, [], _∷_, _++_}
 use lib.ListN.{replicate}
-use Rattle.tlv.specs.declared.held.Continuation.the-variants.{TooLong, Misfit, Ends, GoesOn}
+use Rattle.tlv.specs.declared.note.SlotNote.the-variants.{Misfit, TooLong}
+use Rattle.tlv.specs.declared.held.Continuation.the-variants.{Dropped, Ends, GoesOn}
 use Rattle.wire.specs.Field.{be}
 use Rattle.tlv.specs.Packet.{goodFirst, total, complete, tooLong, marked, cutBy, cut}
 use Rattle.tlv.specs.Slot.{none, endFrom, lastPointer, sound, slotNote}
@@ -72,19 +73,19 @@ Examples =
     × (sound (0 ∷ 0 ∷ []) 0xffff 2 ≡ true)
     × (sound (0 ∷ 0 ∷ []) 2 2 ≡ false)
     -- "their header is completed from the slot, before or past t": a total of 0x7f03 and 4, by bytes of the next packet; 43, not 42
-    × (continuationOf (0x7f ∷ 0xff ∷ []) (0x7f ∷ 0x03 ∷ 0 ∷ 0 ∷ []) 0 4 ≡ TooLong)
-    × (continuationOf (0x7f ∷ []) (0xff ∷ 0x7f ∷ 0x03 ∷ 0 ∷ 0 ∷ []) 1 5 ≡ TooLong)
+    × (continuationOf (0x7f ∷ 0xff ∷ []) (0x7f ∷ 0x03 ∷ 0 ∷ 0 ∷ []) 0 4 ≡ Dropped TooLong)
+    × (continuationOf (0x7f ∷ []) (0xff ∷ 0x7f ∷ 0x03 ∷ 0 ∷ 0 ∷ []) 1 5 ≡ Dropped TooLong)
     -- "an end (0 if nothing is held) that differs from t"
-    × (continuationOf [] (replicate 5 0 ++ nullPacket) 5 9 ≡ Misfit)
+    × (continuationOf [] (replicate 5 0 ++ nullPacket) 5 9 ≡ Dropped Misfit)
     × (continuationOf (header 1) (0 ∷ nullPacket) 1 5 ≡ Ends 1)
-    × (continuationOf (header 2) (0 ∷ nullPacket) 1 5 ≡ Misfit)
+    × (continuationOf (header 2) (0 ∷ nullPacket) 1 5 ≡ Dropped Misfit)
     -- "for t = 0xFFFF: an end inside the slot, or at L without last = L, or after L with last = L, or no packet held"
-    × (continuationOf (header 3) (replicate 4 0) 0xffff 4 ≡ Misfit)
+    × (continuationOf (header 3) (replicate 4 0) 0xffff 4 ≡ Dropped Misfit)
     × (continuationOf (header 4) (replicate 4 0) 0xffff 4 ≡ Ends 4)
-    × (continuationOf (header 4) (replicate 4 0) 0xffff 0xffff ≡ Misfit)
-    × (continuationOf (header 5) (replicate 4 0) 0xffff 4 ≡ Misfit)
+    × (continuationOf (header 4) (replicate 4 0) 0xffff 0xffff ≡ Dropped Misfit)
+    × (continuationOf (header 5) (replicate 4 0) 0xffff 4 ≡ Dropped Misfit)
     × (continuationOf (header 5) (replicate 4 0) 0xffff 0xffff ≡ GoesOn)
-    × (continuationOf [] (replicate 4 0) 0xffff 0xffff ≡ Misfit)
+    × (continuationOf [] (replicate 4 0) 0xffff 0xffff ≡ Dropped Misfit)
 
 pub examples : Examples
 examples =

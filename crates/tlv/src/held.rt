@@ -4,13 +4,12 @@ ghost use Prim.Native.Nat.{_-_, _<_};
 ghost use mathlib.Core.List.{_++_};
 ghost use lib.ListN.{getD};
 ghost use Rattle.tlv.specs.Held.{heldTotal, continuationOf, endWithin, endBeyond};
+use crate::note::SlotNote;
 
 // What becomes of the packet whose bytes are held.
 pub enum Continuation {
-    // Note 43.
-    TooLong,
-    // Note 42.
-    Misfit,
+    // It is dropped, with this note.
+    Dropped(SlotNote),
     // It ends in the slot, before this place; 0 if nothing was held.
     Ends(usize),
     // The whole slot belongs to it.
@@ -49,16 +48,16 @@ fn without_top(end: usize, len: usize, last: usize) -> Continuation
     ensures { λ r. ⌜ r ≡ endBeyond end len last ⌝ }
 {
     if end < len {
-        return Continuation::Misfit;
+        return Continuation::Dropped(SlotNote::Misfit);
     }
     if end == len {
         if last == len {
             return Continuation::Ends(end);
         }
-        return Continuation::Misfit;
+        return Continuation::Dropped(SlotNote::Misfit);
     }
     if last == len {
-        return Continuation::Misfit;
+        return Continuation::Dropped(SlotNote::Misfit);
     }
     Continuation::GoesOn
 }
@@ -70,7 +69,7 @@ fn before_top(end: usize, t: usize) -> Continuation
     if end == t {
         Continuation::Ends(end)
     } else {
-        Continuation::Misfit
+        Continuation::Dropped(SlotNote::Misfit)
     }
 }
 
@@ -84,7 +83,7 @@ pub fn resume(held: &[u8], s: &[u8], top: u16, last: u16) -> Continuation
     }
     let total = total_across(held, s);
     if crate::packet::MAX_PACKET < total {
-        return Continuation::TooLong;
+        return Continuation::Dropped(SlotNote::TooLong);
     }
     let end = wire::memory::distance(n, total);
     if top == crate::slot::NONE {
