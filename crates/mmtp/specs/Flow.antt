@@ -9,9 +9,11 @@ use lib.ListN.{length, getD}
 use lib.Dec.{eqb, ltb}
 use Rattle.wire.specs.Bits.{bitsAt}
 use Rattle.wire.specs.Field.{be}
+use Rattle.mmtp.specs.declared.note.PacketNote.the-variants.{BadFlow}
+use Rattle.mmtp.specs.Notes.{numberOf}
 use Rattle.mmtp.specs.Cases.{chose, chose-not}
 use Rattle.mmtp.specs.declared.flow.Flow.{Flow}
-use Rattle.mmtp.specs.declared.flow.Flow.the-variants.{Silent, Malformed, Mmtp}
+use Rattle.mmtp.specs.declared.flow.Flow.the-variants.{Silent, Noted, Mmtp}
 use Rattle.mmtp.specs.declared.flow.Compressed.{Compressed}
 use Rattle.mmtp.specs.declared.flow.Compressed.the-variants.{Start, Reserved}
 
@@ -23,13 +25,13 @@ compressedHeader t =
 
 -- "another type, or fewer bytes: 50"
 unfoldable pub behind : Compressed → List ℕ → Flow
-behind (Start n) p = cond (ltb (length p) (4 + n)) Malformed (Mmtp (4 + n))
-behind Reserved p = Malformed
+behind (Start n) p = cond (ltb (length p) (4 + n)) (Noted BadFlow) (Mmtp (4 + n))
+behind Reserved p = Noted BadFlow
 
 -- type 3, behind the TLV header of 4 bytes: CID of 12 bits, SN of 4, header type of 8
 unfoldable pub compressedOf : List ℕ → ℕ → Flow
 compressedOf p cid =
-    cond (ltb (length p) 7) Malformed
+    cond (ltb (length p) 7) (Noted BadFlow)
     (cond (eqb (bitsAt 4 12 (be 2 p 4)) cid) (behind (compressedHeader (getD p 6 0)) p) Silent)
 
 -- "Only type 3 is read; others are silent"
@@ -39,7 +41,7 @@ flowOf p cid = cond (eqb (getD p 1 0) 3) (compressedOf p cid) Silent
 -- the note that each case gives; 0 for none
 abbrev pub noteOf : Flow → ℕ
 noteOf Silent = 0
-noteOf Malformed = 50
+noteOf (Noted n) = numberOf n
 noteOf (Mmtp start) = 0
 
 -- each header type's place is one of four
@@ -60,14 +62,14 @@ pub reserved : (t : ℕ) → (t ≡ 0x20 → ⊥) → (t ≡ 0x21 → ⊥) → (
 unfolding compressedHeader
 reserved t a b c d = rw (ne-eqb _ _ a, ne-eqb _ _ b, ne-eqb _ _ c, ne-eqb _ _ d)
 
-malformed-not : (n : ℕ) → Malformed ≡ Mmtp n → ⊥
+malformed-not : (n : ℕ) → Noted BadFlow ≡ Mmtp n → ⊥
 malformed-not n e = let z : _≡_ {A = ℕ} 0 1 = cc in omega arith
 
 silent-not : (n : ℕ) → Silent ≡ Mmtp n → ⊥
 silent-not n e = let z : _≡_ {A = ℕ} 0 1 = cc in omega arith
 
 module _ (p : List ℕ) where
-  pub behind-cut : (n : ℕ) → length p < 4 + n → behind (Start n) p ≡ Malformed
+  pub behind-cut : (n : ℕ) → length p < 4 + n → behind (Start n) p ≡ Noted BadFlow
   unfolding behind
   behind-cut n h = rw (lt-ltb _ _ h)
 
@@ -78,7 +80,7 @@ module _ (p : List ℕ) where
   behind-place : (h : Compressed) (n : ℕ) → ((k : ℕ) → h ≡ Start k → 3 ≤ k) → behind h p ≡ Mmtp n → (7 ≤ n) × (n ≤ length p)
   unfolding behind
   behind-place (Start k) n b e =
-      let a = chose-not (ltb (length p) (4 + k)) Malformed (Mmtp (4 + k)) (Mmtp n) e (malformed-not n) in
+      let a = chose-not (ltb (length p) (4 + k)) (Noted BadFlow) (Mmtp (4 + k)) (Mmtp n) e (malformed-not n) in
       let l : 4 + k ≤ length p = ltb-false _ _ (a .0) in
       let s : 4 + k ≡ n = let q : Mmtp (4 + k) ≡ Mmtp n = a .1 in cc in
       let m : 3 ≤ k = b k refl in
@@ -86,7 +88,7 @@ module _ (p : List ℕ) where
   behind-place Reserved n b e = absurd (malformed-not n e)
 
 module _ (p : List ℕ) (cid : ℕ) where
-  pub under-3-bytes : length p < 7 → compressedOf p cid ≡ Malformed
+  pub under-3-bytes : length p < 7 → compressedOf p cid ≡ Noted BadFlow
   unfolding compressedOf
   under-3-bytes h = rw (lt-ltb _ _ h)
 
@@ -112,7 +114,7 @@ module _ (p : List ℕ) (cid : ℕ) where
   mmtp-place n e =
       let t = getD p 6 0 in
       let a = chose (eqb (getD p 1 0) 3) (compressedOf p cid) Silent (Mmtp n) e (silent-not n) in
-      let b = chose-not (ltb (length p) 7) Malformed _ (Mmtp n) (a .1) (malformed-not n) in
+      let b = chose-not (ltb (length p) 7) (Noted BadFlow) _ (Mmtp n) (a .1) (malformed-not n) in
       let d = chose (eqb (bitsAt 4 12 (be 2 p 4)) cid) (behind (compressedHeader t) p) Silent (Mmtp n) (b .1) (silent-not n) in
       let place = behind-place p (compressedHeader t) n (λ k h. start-bounds t k h .0) (d .1) in
       (eqb-true _ _ (a .0), place .0, place .1)

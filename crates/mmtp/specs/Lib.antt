@@ -1,5 +1,6 @@
 -- The definitions of packets, their laws, and the specimens.
 pub mod Cases
+pub mod Notes
 pub mod Flow
 pub mod Header
 pub mod Watch

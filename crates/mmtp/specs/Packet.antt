@@ -14,14 +14,16 @@ use Rattle.mmtp.specs.declared.watch.Found.{Found}
 use Rattle.mmtp.specs.declared.watch.Found.the-variants.{At, Nothing}
 use Rattle.mmtp.specs.declared.packet.Packet.{Packet}
 use Rattle.mmtp.specs.declared.packet.Reading.{Reading}
-use Rattle.mmtp.specs.declared.packet.Reading.the-variants.{Silent, BadHeader, BadPayload, Good}
+use Rattle.mmtp.specs.declared.packet.Reading.the-variants.{Silent, Noted, Good}
+use Rattle.mmtp.specs.declared.note.PacketNote.the-variants.{BadHeader, BadPayload}
+use Rattle.mmtp.specs.Notes.{numberOf}
 use Rattle.mmtp.specs.Header.{headerOf}
 use Rattle.mmtp.specs.Watch.{lookupOf, lookup-at}
 use Rattle.mmtp.specs.Payload.{payloadOf}
 
 -- a watched packet_id's payload
 unfoldable pub bodyRead : ℕ → Header → PayloadRead → Reading
-bodyRead place h BadBody = BadPayload (h .«packet_id»)
+bodyRead place h BadBody = Noted BadPayload (h .«packet_id»)
 bodyRead place h (GoodBody p) = Good (record { place = place; «packet_id» = h .«packet_id»; psn = h .psn; payload = p })
 
 unfoldable pub lookedUp : Found → List ℕ → Header → Reading
@@ -29,7 +31,7 @@ lookedUp Nothing m h = Silent
 lookedUp (At place) m h = bodyRead place h (payloadOf m (h .start) (h .«payload_type»))
 
 unfoldable pub headRead : HeaderRead → List ℕ → Watch → Reading
-headRead BadHead m w = BadHeader
+headRead BadHead m w = Noted BadHeader 0
 headRead (GoodHead h) m w = lookedUp (lookupOf w (h .«packet_id»)) m h
 
 unfoldable pub readingOf : List ℕ → Watch → Reading
@@ -38,12 +40,11 @@ readingOf m w = headRead (headerOf m) m w
 -- the note that each case gives; 0 for none
 abbrev pub noteOf : Reading → ℕ
 noteOf Silent = 0
-noteOf BadHeader = 51
-noteOf (BadPayload id) = 52
+noteOf (Noted n id) = numberOf n
 noteOf (Good p) = 0
 
 module _ (m : List ℕ) (w : Watch) where
-  pub bad-header : headerOf m ≡ BadHead → readingOf m w ≡ BadHeader
+  pub bad-header : headerOf m ≡ BadHead → readingOf m w ≡ Noted BadHeader 0
   unfolding readingOf headRead
   bad-header e = rw e
 

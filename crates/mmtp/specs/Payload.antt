@@ -109,11 +109,6 @@ unfoldable pub piecesOf : List ℕ → Payload → List Piece
 piecesOf m p =
     cond (p .aggregated) (aggregate (drop (p .start) m) (p .kind) (p .wide) .pieces) (pieceOf (p .kind) (drop (p .start) m) ∷ [])
 
--- the note that each case gives; 0 for none
-abbrev pub noteOf : PayloadRead → ℕ
-noteOf Malformed = 52
-noteOf (Good p) = 0
-
 -- Laws.
 
 -- a flag, by a shift and a mask

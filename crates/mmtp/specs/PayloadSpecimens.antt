@@ -11,11 +11,19 @@ use Rattle.mmtp.specs.declared.payload.PayloadRead.the-variants.{Good}
 use Rattle.mmtp.specs.Unit.{Piece, noFields, fieldBytes, fieldsOf, pieceOf, lengthBytes, unitFits, singleFits}
 use Rattle.mmtp.specs.Unit.{unitThen, aggregateBy, aggregate, aggregateFits}
 use Rattle.mmtp.specs.Payload.{indicatorOf, fragmentTypeOf, mpuOf, signallingOf, parsedOf, counterFits}
-use Rattle.mmtp.specs.Payload.{aggregationFits, unitsFit, tested, payloadOf, piecesOf, noteOf}
+use Rattle.mmtp.specs.Payload.{aggregationFits, unitsFit, tested, payloadOf, piecesOf}
+use Rattle.mmtp.specs.Header.{headerOf, plain, payloadStart, fixedBytes, extensionBytes, extensionLength}
+use Rattle.mmtp.specs.Watch.{lookupOf, firstFrom}
+use Rattle.mmtp.specs.Packet.{bodyRead, lookedUp, headRead, readingOf, noteOf}
 
 -- an MPU payload: 16-bit length, its third byte, counter, MPU sequence number 9, and what follows
 abbrev mpuBytes : ℕ → ℕ → ℕ → List ℕ → List ℕ
 mpuBytes n third counter rest = 0 ∷ n ∷ third ∷ counter ∷ 0 ∷ 0 ∷ 0 ∷ 9 ∷ rest
+
+-- the note of an MMTP packet with this payload type and payload, of the watched packet_id 0x1234 and psn 7
+abbrev note : ℕ → List ℕ → ℕ
+note type b =
+    noteOf (readingOf (0 ∷ type ∷ 0x12 ∷ 0x34 ∷ 0 ∷ 0 ∷ 0 ∷ 0 ∷ 0 ∷ 0 ∷ 0 ∷ 7 ∷ b) (record { ids = 0x1234 ∷ []; n = 1 }))
 
 abbrev pub PayloadSpecimens : Type 0
 PayloadSpecimens =
@@ -23,10 +31,11 @@ PayloadSpecimens =
     (payloadOf (mpuBytes 20 0x2A 1 (replicate 14 0)) 0 0
     ≡ Good (record { kind = 2; indicator = First; counter = 1; mpu = 9; aggregated = false; wide = false; start = 8 }))
     -- "0x2B: 52", though its one unit is whole
-    × (noteOf (payloadOf (mpuBytes 22 0x2B 1 (0 ∷ 14 ∷ replicate 14 0)) 0 0) ≡ 52)
+    × (note 0 (mpuBytes 22 0x2B 1 (0 ∷ 14 ∷ replicate 14 0)) ≡ 52)
 
 pub payload-specimens : PayloadSpecimens
 unfolding payloadOf tested parsedOf mpuOf be fragmentTypeOf counterFits indicatorOf aggregationFits unitsFit singleFits fieldBytes
+    headerOf plain payloadStart fixedBytes extensionBytes extensionLength lookupOf firstFrom bodyRead lookedUp headRead readingOf
 payload-specimens = (refl, refl)
 
 -- a signalling payload with FI 00, counter 0 and this H, without A
@@ -47,19 +56,20 @@ Examples =
     -- two aggregated signalling units, the second empty
     × (aggregate (0 ∷ 1 ∷ 7 ∷ 0 ∷ 0 ∷ []) 4 false ≡ record { pieces = message (7 ∷ []) ∷ message [] ∷ []; fits = true })
     -- the second runs over the end
-    × (noteOf (payloadOf (1 ∷ 0 ∷ 0 ∷ 1 ∷ 7 ∷ 0 ∷ 2 ∷ 8 ∷ []) 0 2) ≡ 52)
+    × (note 2 (1 ∷ 0 ∷ 0 ∷ 1 ∷ 7 ∷ 0 ∷ 2 ∷ 8 ∷ []) ≡ 52)
     -- A without a unit
-    × (noteOf (payloadOf (1 ∷ 0 ∷ []) 0 2) ≡ 52)
+    × (note 2 (1 ∷ 0 ∷ []) ≡ 52)
     -- an aggregated unit of kind 2 that is shorter than its fields
-    × (noteOf (payloadOf (mpuBytes 21 0x29 0 (0 ∷ 13 ∷ replicate 13 0)) 0 0) ≡ 52)
+    × (note 0 (mpuBytes 21 0x29 0 (0 ∷ 13 ∷ replicate 13 0)) ≡ 52)
     -- a length that differs from what follows
-    × (noteOf (payloadOf (mpuBytes 21 0x2A 1 (replicate 14 0)) 0 0) ≡ 52)
+    × (note 0 (mpuBytes 21 0x2A 1 (replicate 14 0)) ≡ 52)
     -- FI 01 and FI 10 with counter 0, FI 11 with counter 1
-    × (noteOf (payloadOf (0x40 ∷ 0 ∷ []) 0 2) ≡ 52)
-    × (noteOf (payloadOf (0x80 ∷ 0 ∷ []) 0 2) ≡ 52)
-    × (noteOf (payloadOf (0xC0 ∷ 1 ∷ []) 0 2) ≡ 52)
+    × (note 2 (0x40 ∷ 0 ∷ []) ≡ 52)
+    × (note 2 (0x80 ∷ 0 ∷ []) ≡ 52)
+    × (note 2 (0xC0 ∷ 1 ∷ []) ≡ 52)
 
 pub examples : Examples
 unfolding payloadOf piecesOf tested parsedOf mpuOf signallingOf be fragmentTypeOf counterFits indicatorOf aggregationFits unitsFit
     singleFits fieldBytes fieldsOf pieceOf lengthBytes unitFits unitThen aggregateBy aggregate aggregateFits
+    headerOf plain payloadStart fixedBytes extensionBytes extensionLength lookupOf firstFrom bodyRead lookedUp headRead readingOf
 examples = (refl, refl, refl, refl, refl, refl, refl, refl, refl, refl, refl, refl)

@@ -2,14 +2,14 @@
 ghost use mathlib.Core.Path.{_≡_};
 ghost use lib.ListN.{length};
 ghost use Rattle.mmtp.specs.Flow.{compressedHeader, compressedOf, flowOf};
+use crate::note::PacketNote;
 use wire::field;
 
 // What a TLV packet holds.
 pub enum Flow {
     // Another packet type or another flow.
     Silent,
-    // Note 50.
-    Malformed,
+    Noted(PacketNote),
     // An MMTP packet of the flow, from this byte of the TLV packet to its end.
     Mmtp(usize),
 }
@@ -40,7 +40,7 @@ fn find_compressed(packet: &[u8], cid: u16) -> Flow
 {
     let len = packet.len();
     if len < 7 {
-        return Flow::Malformed;
+        return Flow::Noted(PacketNote::BadFlow);
     }
     if field::read16(packet, 4) >> 4 != cid {
         return Flow::Silent;
@@ -49,12 +49,12 @@ fn find_compressed(packet: &[u8], cid: u16) -> Flow
     match header {
         Compressed::Start(start) => {
             if len < 4 + start {
-                Flow::Malformed
+                Flow::Noted(PacketNote::BadFlow)
             } else {
                 Flow::Mmtp(4 + start)
             }
         }
-        Compressed::Reserved => Flow::Malformed,
+        Compressed::Reserved => Flow::Noted(PacketNote::BadFlow),
     }
 }
 

@@ -15,7 +15,6 @@ pub struct Header {
 }
 
 pub enum HeaderRead {
-    // Note 51.
     Malformed,
     Good(Header),
 }

@@ -3,6 +3,7 @@ ghost use mathlib.Core.Path.{_≡_};
 ghost use Rattle.mmtp.specs.Packet.{readingOf};
 use crate::header::HeaderRead;
 use crate::header::Psn;
+use crate::note::PacketNote;
 use crate::payload::Payload;
 use crate::payload::PayloadRead;
 use crate::watch::Found;
@@ -20,10 +21,8 @@ pub struct Packet {
 pub enum Reading {
     // Not watched.
     Silent,
-    // Note 51.
-    BadHeader,
-    // Note 52, with the packet_id.
-    BadPayload(u16),
+    // A note and its packet_id; 0 where it has none.
+    Noted(PacketNote, u16),
     Good(Packet),
 }
 
@@ -32,7 +31,7 @@ pub fn read(m: &[u8], watch: Watch) -> Reading
 {
     let heading = crate::header::read(m);
     let HeaderRead::Good(h) = heading else {
-        return Reading::BadHeader;
+        return Reading::Noted(PacketNote::BadHeader, 0);
     };
     let packet_id = h.packet_id;
     let found = crate::watch::lookup(watch, packet_id);
@@ -41,7 +40,7 @@ pub fn read(m: &[u8], watch: Watch) -> Reading
     };
     let body = crate::payload::read(m, h.start, h.payload_type);
     let PayloadRead::Good(payload) = body else {
-        return Reading::BadPayload(packet_id);
+        return Reading::Noted(PacketNote::BadPayload, packet_id);
     };
     let psn = h.psn;
     Reading::Good(Packet {

@@ -33,7 +33,6 @@ pub struct Payload {
 }
 
 pub enum PayloadRead {
-    // Note 52.
     Malformed,
     Good(Payload),
 }

@@ -36,8 +36,8 @@ add-if3 c =
     let b = start-bounds _ _ (sym (c .before .before .before .compressed-header .ensures) ∙ c .before .header .given .1) in
     omega arith
 
-add-t15 : tie.Need-add-t15
-add-t15 c = search needs
+add-t17 : tie.Need-add-t17
+add-t17 c = search needs
 
 enum-told : tie.Need-enum-told
 enum-told c = search needs
@@ -67,7 +67,7 @@ find-compressed-spec =
     compressed-header-requires
     enum-known-header
     add-if3
-    add-t15
+    add-t17
     enum-told
     returns-3
     returns-4
