@@ -16,6 +16,8 @@ use Rattle.reassembly.specs.declared.join.Piece.{Piece}
 use Rattle.reassembly.specs.declared.join.Action.the-variants.{Nothing, Whole as GiveWhole, Store, Complete}
 use Rattle.reassembly.specs.declared.join.Joined.{Joined}
 use Rattle.reassembly.specs.declared.join.HeardWhole.{HeardWhole}
+use Rattle.reassembly.specs.declared.note.JoinNote.the-variants.{Gap, Interrupted, Headless, Apart, AboveLimit}
+use Rattle.reassembly.specs.Notes.{numberOf}
 use Rattle.reassembly.specs.Unit.{agrees}
 use Rattle.reassembly.specs.Channel.{nextPsn, heard, gap}
 
@@ -30,7 +32,7 @@ unfoldable pub interrupted : Phase → ℕ
 interrupted Unheard = 0
 interrupted Waiting = 0
 interrupted Idle = 0
-interrupted Open = 61
+interrupted Open = numberOf Interrupted
 
 -- nothing is given
 abbrev pub kept : Channel → Phase → ℕ → Bool → Joined
@@ -68,15 +70,15 @@ unfoldable pub extended : Channel → Piece → ℕ → Bool → Joined
 extended ch p limit last =
     cond (agrees (ch .current .unit) (p .unit) && counterFollows (ch .current .counter) (p .counter))
     (cond (ltb limit (ch .current .len + p .len)) (kept ch Waiting 0 true) (grown ch p last))
-    (kept ch Waiting 63 false)
+    (kept ch Waiting (numberOf Apart) false)
 
 module _ (ch : Channel) (p : Piece) (limit : ℕ) (last : Bool) where
-  pub extended-apart : agrees (ch .current .unit) (p .unit) ≡ false → extended ch p limit last ≡ kept ch Waiting 63 false
+  pub extended-apart : agrees (ch .current .unit) (p .unit) ≡ false → extended ch p limit last ≡ kept ch Waiting (numberOf Apart) false
   unfolding extended
   extended-apart a = rw a
 
   pub extended-uncounted : agrees (ch .current .unit) (p .unit) ≡ true → counterFollows (ch .current .counter) (p .counter) ≡ false
-      → extended ch p limit last ≡ kept ch Waiting 63 false
+      → extended ch p limit last ≡ kept ch Waiting (numberOf Apart) false
   unfolding extended
   extended-uncounted a c = rw (a, c)
 
@@ -94,7 +96,7 @@ module _ (ch : Channel) (p : Piece) (limit : ℕ) (last : Bool) where
 abbrev pub followedIn : Phase → Channel → Piece → ℕ → Bool → Joined
 followedIn Unheard ch p limit last = kept ch Waiting 0 false
 followedIn Waiting ch p limit last = kept ch Waiting 0 false
-followedIn Idle ch p limit last = kept ch Waiting 62 false
+followedIn Idle ch p limit last = kept ch Waiting (numberOf Headless) false
 followedIn Open ch p limit last = extended ch p limit last
 
 unfoldable pub followed : Channel → Piece → ℕ → Bool → Joined
@@ -136,14 +138,14 @@ noted n j = record { channel = j .channel; note = n; over = j .over; action = j 
 -- (a), (b), (c)
 unfoldable pub joinOf : Channel → Piece → ℕ → Joined
 joinOf ch p limit =
-    cond (gap ch (p .unit .psn)) (noted 60 (acted (inPhase (recorded ch p) Waiting) p limit)) (acted (recorded ch p) p limit)
+    cond (gap ch (p .unit .psn)) (noted (numberOf Gap) (acted (inPhase (recorded ch p) Waiting) p limit)) (acted (recorded ch p) p limit)
 
 -- FI 00: the channel after it, and its note
 unfoldable pub heardWhole : Channel → Psn → HeardWhole
 heardWhole ch psn =
     record {
       channel = record { phase = Idle; last = psn; current = ch .current };
-      note = cond (gap ch psn) 60 (interrupted (ch .phase));
+      note = cond (gap ch psn) (numberOf Gap) (interrupted (ch .phase));
     }
 
 -- that is the step of a packet FI 00
@@ -212,4 +214,4 @@ joined-over ch p limit h i =
 
 -- the notes of a step, in order
 unfoldable pub notesOf : Joined → List ℕ
-notesOf j = cond (eqb (j .note) 0) [] (j .note ∷ []) ++ cond (j .over) (64 ∷ []) []
+notesOf j = cond (eqb (j .note) 0) [] (j .note ∷ []) ++ cond (j .over) (numberOf AboveLimit ∷ []) []

@@ -1,4 +1,5 @@
 -- The definitions of joining, its laws and claims, and the specimens.
+pub mod Notes
 pub mod Unit
 pub mod Channel
 pub mod Join

@@ -7,6 +7,8 @@ use crate::channel::Channel;
 use crate::channel::OpenUnit;
 use crate::channel::Phase;
 use crate::channel::is_gap;
+use crate::note::JoinNote;
+use crate::note::number;
 use crate::unit::Unit;
 use mmtp::header::Psn;
 use mmtp::payload::Indicator;
@@ -32,9 +34,9 @@ pub enum Action {
 
 pub struct Joined {
     pub channel: Channel,
-    // 60, 61, 62 or 63; 0 for none.
+    // The number of a note but the last; 0 for none.
     pub note: u8,
-    // Note 64 comes, after the other.
+    // The bytes are above R: this note comes after the other.
     pub over: bool,
     pub action: Action,
 }
@@ -45,7 +47,7 @@ pub struct HeardWhole {
     pub note: u8,
 }
 
-// Note 61 where an open unit is dropped.
+// The note where an open unit is dropped; 0 for none.
 fn interruption(phase: Phase) -> u8
     ensures { λ r. ⌜ r ≡ interrupted phase ⌝ }
 {
@@ -53,7 +55,7 @@ fn interruption(phase: Phase) -> u8
         Phase::Unheard => 0,
         Phase::Waiting => 0,
         Phase::Idle => 0,
-        Phase::Open => 61,
+        Phase::Open => number(JoinNote::Interrupted),
     }
 }
 
@@ -170,10 +172,10 @@ fn extend(ch: Channel, p: Piece, limit: usize, last: bool) -> Joined
     let unit = current.unit;
     let piece = p.unit;
     if !crate::unit::agree(unit, piece) {
-        return keep(ch, Phase::Waiting, 63, false);
+        return keep(ch, Phase::Waiting, number(JoinNote::Apart), false);
     }
     if !counter_follows(current.counter, p.counter) {
-        return keep(ch, Phase::Waiting, 63, false);
+        return keep(ch, Phase::Waiting, number(JoinNote::Apart), false);
     }
     let at = current.len;
     if limit < p.len {
@@ -193,7 +195,7 @@ fn follow(ch: Channel, p: Piece, limit: usize, last: bool) -> Joined
     match phase {
         Phase::Unheard => keep(ch, Phase::Waiting, 0, false),
         Phase::Waiting => keep(ch, Phase::Waiting, 0, false),
-        Phase::Idle => keep(ch, Phase::Waiting, 62, false),
+        Phase::Idle => keep(ch, Phase::Waiting, number(JoinNote::Headless), false),
         Phase::Open => extend(ch, p, limit, last),
     }
 }
@@ -236,7 +238,10 @@ pub fn join(ch: Channel, p: Piece, limit: usize) -> Joined
     let heard = hear(ch, psn, gap);
     let j = act(heard, p, limit);
     if gap {
-        return Joined { note: 60, ..j };
+        return Joined {
+            note: number(JoinNote::Gap),
+            ..j
+        };
     }
     j
 }
@@ -252,7 +257,8 @@ pub fn hear_whole(ch: Channel, psn: Psn) -> HeardWhole
         ..ch
     };
     if is_gap(ch, psn) {
-        return HeardWhole { channel, note: 60 };
+        let note = number(JoinNote::Gap);
+        return HeardWhole { channel, note };
     }
     let note = interruption(phase);
     HeardWhole { channel, note }

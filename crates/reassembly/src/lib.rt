@@ -3,4 +3,5 @@ pub mod channel;
 pub mod config;
 pub mod follow;
 pub mod join;
+pub mod note;
 pub mod unit;

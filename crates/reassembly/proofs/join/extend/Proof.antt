@@ -10,26 +10,34 @@ use Rattle.reassembly.proofs.join.extend.Tie as tie
 agree-requires : tie.Need-agree-requires
 agree-requires c κs = search needs
 
+number-requires : tie.Need-number-requires
+number-requires c κs = search needs
+
 keep-requires : tie.Need-keep-requires
 keep-requires c κs = search needs
 
 returns : tie.Need-returns
 returns c =
-    c .keep .ensures
-    ∙ sym (extended-apart _ _ _ _ (sym (c .before .before .agree .ensures) ∙ not-true _ (c .before .if1 .taken)))
+    let d = c .before .before in
+    c .keep .ensures ∙ rw (c .before .number .ensures)
+    (sym (extended-apart _ _ _ _ (sym (d .before .agree .ensures) ∙ not-true _ (d .if1 .taken))))
 
 counter-follows-requires : tie.Need-counter-follows-requires
 counter-follows-requires c κs = search needs
+
+number-requires-2 : tie.Need-number-requires-2
+number-requires-2 c κs = search needs
 
 keep-requires-2 : tie.Need-keep-requires-2
 keep-requires-2 c κs = search needs
 
 returns-2 : tie.Need-returns-2
 returns-2 c =
-    let d = c .before .before in
-    c .keep2 .ensures
-    ∙ sym (extended-uncounted _ _ _ _ (sym (d .before .before .agree .ensures) ∙ not-false _ (d .before .if1 .left))
-    (sym (d .counter-follows .ensures) ∙ not-true _ (c .before .if2 .taken)))
+    let e = c .before .before in
+    let d = e .before in
+    c .keep2 .ensures ∙ rw (c .before .number2 .ensures)
+    (sym (extended-uncounted _ _ _ _ (sym (d .before .before .agree .ensures) ∙ not-false _ (d .before .if1 .left))
+    (sym (d .counter-follows .ensures) ∙ not-true _ (e .if2 .taken))))
 
 keep-requires-3 : tie.Need-keep-requires-3
 keep-requires-3 c κs = search needs
@@ -69,9 +77,11 @@ extend-spec =
     tie.close
     (tie.spec
     agree-requires
+    number-requires
     keep-requires
     returns
     counter-follows-requires
+    number-requires-2
     keep-requires-2
     returns-2
     keep-requires-3

@@ -19,6 +19,9 @@ keep-requires-2 c κs = search needs
 enum-told-3 : tie.Need-enum-told-3
 enum-told-3 c = search needs
 
+number-requires : tie.Need-number-requires
+number-requires c κs = search needs
+
 keep-requires-3 : tie.Need-keep-requires-3
 keep-requires-3 c κs = search needs
 
@@ -38,7 +41,7 @@ returns-2 c = rw (c .keep2 .ensures, c .before .enum-told2 .given .1)
 
 returns-3 : tie.Need-returns-3
 unfolding followed
-returns-3 c = rw (c .keep3 .ensures, c .before .enum-told3 .given .1)
+returns-3 c = rw (c .keep3 .ensures, c .before .number .ensures, c .before .before .enum-told3 .given .1)
 
 returns-4 : tie.Need-returns-4
 unfolding followed
@@ -53,6 +56,7 @@ follow-spec =
     enum-told-2
     keep-requires-2
     enum-told-3
+    number-requires
     keep-requires-3
     enum-told-4
     extend-requires

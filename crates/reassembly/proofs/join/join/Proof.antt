@@ -13,12 +13,15 @@ hear-requires c κs = search needs
 act-requires : tie.Need-act-requires
 act-requires c κs = search needs
 
+number-requires : tie.Need-number-requires
+number-requires c κs = search needs
+
 returns : tie.Need-returns
 unfolding heardAt joinOf
 returns c =
-    let a = c .before .before in
+    let a = c .before .before .before in
     let h = a .before in
-    rw (a .act .ensures, h .hear .ensures, ← h .before .is-gap .ensures, c .before .if1 .taken)
+    rw (a .act .ensures, h .hear .ensures, ← h .before .is-gap .ensures, c .before .before .if1 .taken, c .before .number .ensures)
 
 returns-2 : tie.Need-returns-2
 unfolding heardAt joinOf
@@ -28,4 +31,4 @@ returns-2 c =
     rw (a .act .ensures, h .hear .ensures, ← h .before .is-gap .ensures, c .if1 .left)
 
 pub join-spec : {M : Type 1} → statement M
-join-spec = tie.close (tie.spec is-gap-requires hear-requires act-requires returns returns-2)
+join-spec = tie.close (tie.spec is-gap-requires hear-requires act-requires number-requires returns returns-2)
