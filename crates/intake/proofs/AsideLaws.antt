@@ -13,7 +13,7 @@ use borrow.Author.Tests.{leb-true}
 use Rattle.wire.specs.Memory.{partOf, pasted, length-pasted}
 use Rattle.tmcc.specs.declared.layout.Pointers.{Pointers}
 use Rattle.tlv.specs.declared.held.Continuation.{Continuation}
-use Rattle.tlv.specs.declared.held.Continuation.the-variants.{TooLong, Misfit, Ends, GoesOn}
+use Rattle.tlv.specs.declared.held.Continuation.the-variants.{Dropped, Ends, GoesOn}
 use Rattle.tlv.specs.Slot.{sound}
 use Rattle.tlv.specs.Held.{continuationOf}
 use Rattle.intake.specs.declared.held.Held.{Held}
@@ -160,8 +160,7 @@ module _ (h : Held) (p d : List ℕ) where
     same-memory : (k : Continuation) → continuationOf (heldBytes h p) d (t .0) (t .1) ≡ k
         → joinedMem k (heldBytes h p) (copied p d) d ≡ copied (resumedMem k h p d) d
     unfolding joinedMem resumedMem
-    same-memory TooLong e = refl
-    same-memory Misfit e = refl
+    same-memory (Dropped x) e = refl
     same-memory (Ends x) e = swapped x (ends-room _ _ _ _ _ s e)
     same-memory GoesOn e = swapped (length d) (goes-on-room _ _ _ _ e)
 

@@ -10,7 +10,8 @@ use lib.Seq.{take-take}
 use lib.Dec.{eqb, ltb, leb}
 use borrow.Author.Tests.{eqb-true, eqb-false, ltb-true, ltb-false}
 use Rattle.wire.specs.Memory.{partOf, pasted}
-use Rattle.tlv.specs.declared.held.Continuation.the-variants.{TooLong, Misfit, Ends, GoesOn}
+use Rattle.tlv.specs.declared.note.SlotNote.the-variants.{Misfit, TooLong}
+use Rattle.tlv.specs.declared.held.Continuation.the-variants.{Dropped, Ends, GoesOn}
 use Rattle.tlv.specs.Slot.{none, sound, unsound-outside}
 use Rattle.tlv.specs.Held.{endWithin, endBeyond, heldTotal, heldEnd, continuationOf}
 use Rattle.intake.specs.declared.held.Held.{Held}
@@ -43,7 +44,7 @@ within-ends : (x t e : ℕ) → endWithin x t ≡ Ends e → (x ≡ e) × (x ≡
 unfolding endWithin
 within-ends x t e q = go (eqb x t) refl q
   where
-    go : (b : Bool) → eqb x t ≡ b → cond b (Ends x) Misfit ≡ Ends e → (x ≡ e) × (x ≡ t)
+    go : (b : Bool) → eqb x t ≡ b → cond b (Ends x) (Dropped Misfit) ≡ Ends e → (x ≡ e) × (x ≡ t)
     go true h q = (cc, eqb-true _ _ h)
     go false h q = differ (cc)
 
@@ -51,7 +52,7 @@ within-stays : (x t : ℕ) → endWithin x t ≡ GoesOn → ⊥
 unfolding endWithin
 within-stays x t q = go (eqb x t) q
   where
-    go : (b : Bool) → cond b (Ends x) Misfit ≡ GoesOn → ⊥
+    go : (b : Bool) → cond b (Ends x) (Dropped Misfit) ≡ GoesOn → ⊥
     go true q = differ (cc)
     go false q = differ (cc)
 
@@ -60,7 +61,7 @@ unfolding endBeyond
 beyond-ends x l last e q = go (ltb x l) (eqb x l) (eqb last l) refl q
   where
     go : (a b c : Bool) → eqb x l ≡ b
-        → cond a Misfit (cond b (cond c (Ends x) Misfit) (cond c Misfit GoesOn)) ≡ Ends e → (x ≡ e) × (x ≡ l)
+        → cond a (Dropped Misfit) (cond b (cond c (Ends x) (Dropped Misfit)) (cond c (Dropped Misfit) GoesOn)) ≡ Ends e → (x ≡ e) × (x ≡ l)
     go true b c h q = differ (cc)
     go false true true h q = (cc, eqb-true _ _ h)
     go false true false h q = differ (cc)
@@ -72,7 +73,7 @@ unfolding endBeyond
 beyond-goes-on x l last q = go (ltb x l) (eqb x l) (eqb last l) refl refl q
   where
     go : (a b c : Bool) → ltb x l ≡ a → eqb x l ≡ b
-        → cond a Misfit (cond b (cond c (Ends x) Misfit) (cond c Misfit GoesOn)) ≡ GoesOn → l < x
+        → cond a (Dropped Misfit) (cond b (cond c (Ends x) (Dropped Misfit)) (cond c (Dropped Misfit) GoesOn)) ≡ GoesOn → l < x
     go true b c g h q = differ (cc)
     go false true true g h q = differ (cc)
     go false true false g h q = differ (cc)
@@ -102,7 +103,7 @@ module _ (h d : List ℕ) (t l : ℕ) where
       x = heldEnd h d
 
       go : (a b c : Bool) → eqb (length h) 0 ≡ a → ltb 16384 (heldTotal h d) ≡ b → eqb t none ≡ c
-          → cond a (endWithin 0 t) (cond b TooLong (cond c (endBeyond x (length d) l) (endWithin x t))) ≡ Ends e → Room h d e
+          → cond a (endWithin 0 t) (cond b (Dropped TooLong) (cond c (endBeyond x (length d) l) (endWithin x t))) ≡ Ends e → Room h d e
       go true b c f g i q =
           let p = within-ends 0 t e q in
           record { within = omega arith; fits = λ m r y. omega (arith, eqb-true (length h) 0 f) }
@@ -124,7 +125,7 @@ module _ (h d : List ℕ) (t l : ℕ) where
       x = heldEnd h d
 
       go : (a b c : Bool) → ltb 16384 (heldTotal h d) ≡ b
-          → cond a (endWithin 0 t) (cond b TooLong (cond c (endBeyond x (length d) l) (endWithin x t))) ≡ GoesOn
+          → cond a (endWithin 0 t) (cond b (Dropped TooLong) (cond c (endBeyond x (length d) l) (endWithin x t))) ≡ GoesOn
           → Room h d (length d)
       go true b c g q = absurd (within-stays 0 t q)
       go false true c g q = differ (cc)

@@ -8,7 +8,7 @@ use lib.Dec.{ltb}
 use Rattle.wire.specs.Memory.{pasted}
 use Rattle.tmcc.specs.declared.layout.Pointers.{Pointers}
 use Rattle.tlv.specs.declared.held.Continuation.{Continuation}
-use Rattle.tlv.specs.declared.held.Continuation.the-variants.{TooLong, Misfit, Ends, GoesOn}
+use Rattle.tlv.specs.declared.held.Continuation.the-variants.{Dropped, Ends, GoesOn}
 use Rattle.tlv.specs.Held.{continuationOf}
 use Rattle.intake.specs.declared.held.Held.{Held}
 use Rattle.intake.specs.declared.held.Intake.{Intake}
@@ -40,8 +40,7 @@ unfoldable pub joined : List ℕ → List ℕ → List ℕ → ℕ → List ℕ
 joined b m d k = pasted (pasted m 0 b (length b)) (length b) d k
 
 unfoldable pub joinedMem : Continuation → List ℕ → List ℕ → List ℕ → List ℕ
-joinedMem TooLong b m d = m
-joinedMem Misfit b m d = m
+joinedMem (Dropped x) b m d = m
 joinedMem (Ends e) b m d = joined b m d e
 joinedMem GoesOn b m d = joined b m d (length d)
 

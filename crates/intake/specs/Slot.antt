@@ -8,7 +8,9 @@ use lib.Dec.{eqb}
 use Rattle.wire.specs.Memory.{partOf, pasted}
 use Rattle.tmcc.specs.declared.layout.Pointers.{Pointers}
 use Rattle.tlv.specs.declared.held.Continuation.{Continuation}
-use Rattle.tlv.specs.declared.held.Continuation.the-variants.{TooLong, Misfit, Ends, GoesOn}
+use Rattle.tlv.specs.declared.held.Continuation.the-variants.{Dropped, Ends, GoesOn}
+use Rattle.tlv.specs.declared.note.SlotNote.the-variants.{Lost, Unsound}
+use Rattle.tlv.specs.Notes.{numberOf}
 use Rattle.tlv.specs.Slot.{none, sound}
 use Rattle.tlv.specs.Held.{continuationOf}
 use Rattle.intake.specs.declared.held.Held.{Held}
@@ -54,8 +56,7 @@ packetEnd n end = cond (eqb n 0) 0 (n + end)
 
 -- a sound slot comes to `n` held bytes
 unfoldable pub resumedAs : Continuation → ℕ → ℕ → ℕ → Intake
-resumedAs TooLong n top l = readingFrom 43 0 top l
-resumedAs Misfit n top l = readingFrom 42 0 top l
+resumedAs (Dropped x) n top l = readingFrom (numberOf x) 0 top l
 resumedAs (Ends e) n top l =
     record { held = cond (eqb top none) (holding 0 0) searching; cursor = cursorFrom 0 (packetEnd n e) top l }
 resumedAs GoesOn n top l = record { held = holding 0 (n + l); cursor = noted 0 }
@@ -68,8 +69,7 @@ unfoldable pub continuedMem : Held → List ℕ → List ℕ → ℕ → List �
 continuedMem h p d k = pasted (movedMem h p) (heldLen h p) d k
 
 unfoldable pub resumedMem : Continuation → Held → List ℕ → List ℕ → List ℕ
-resumedMem TooLong h p d = p
-resumedMem Misfit h p d = p
+resumedMem (Dropped x) h p d = p
 resumedMem (Ends e) h p d = continuedMem h p d e
 resumedMem GoesOn h p d = continuedMem h p d (length d)
 
@@ -89,7 +89,7 @@ resumedOf h p d t = resumedBy (continuationOf (heldBytes h p) d (t .0) (t .1)) h
 
 -- an own live slot by whether it is sound and whether bytes are held, before it is copied
 abbrev pub takenBy : Bool → Bool → Held → List ℕ → List ℕ → Pointers → Out
-takenBy false on h p d t = (record { held = searching; cursor = noted 41 }, p)
+takenBy false on h p d t = (record { held = searching; cursor = noted (numberOf Unsound) }, p)
 takenBy true false h p d t = (readingFrom 0 0 (t .0) (length d), p)
 takenBy true true h p d t = resumedOf h p d t
 
@@ -100,12 +100,12 @@ takenOf h p d t =
 
 -- "A lost slot makes it searching, with note 40 if it wasn't"
 unfoldable pub lostOf : Held → Intake
-lostOf h = record { held = searching; cursor = noted (cond (h .on) 40 0) }
+lostOf h = record { held = searching; cursor = noted (cond (h .on) (numberOf Lost) 0) }
 
 -- Laws: an own live slot that is unsound, one while searching, and one with bytes held.
 module _ (h : Held) (p d : List ℕ) (t : Pointers) where
   pub taken-unsound : sound d (t .0) (t .1) ≡ false
-      → takenOf h p d t ≡ (record { held = searching; cursor = noted 41 }, copied p d)
+      → takenOf h p d t ≡ (record { held = searching; cursor = noted (numberOf Unsound) }, copied p d)
   unfolding takenOf
   taken-unsound s = rw s
 

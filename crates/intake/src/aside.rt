@@ -11,6 +11,7 @@ use crate::held::Held;
 use crate::held::Intake;
 use crate::slot::SLOT_AREA;
 use tlv::held::Continuation;
+use tlv::note::number;
 use tmcc::layout::Pointers;
 
 // Held bytes of the slot's area come to stand in `spare` from byte 0; whether all that is held stands there.
@@ -70,8 +71,7 @@ fn resume_aside(held: &[u8], packet: &mut [u8], bytes: &[u8], t: Pointers) -> In
     let len = bytes.len();
     let c = tlv::held::resume(held, bytes, t.0, t.1);
     match c {
-        Continuation::TooLong => crate::slot::read_from(43, 0, t.0, len),
-        Continuation::Misfit => crate::slot::read_from(42, 0, t.0, len),
+        Continuation::Dropped(note) => crate::slot::read_from(number(note), 0, t.0, len),
         Continuation::Ends(end) => {
             join(held, packet, bytes, end);
             crate::slot::end_packet(n, end, t.0, len)

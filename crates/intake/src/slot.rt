@@ -3,6 +3,8 @@ ghost use mathlib.Core.Path.{_≡_};
 ghost use Prim.Native.Nat.{_+_, _≤_, _<_};
 ghost use lib.ListN.{length};
 ghost use mathlib.Core.Bool.{true};
+ghost use Rattle.tlv.specs.declared.note.SlotNote.the-variants.{Unsound};
+ghost use Rattle.tlv.specs.Notes.{numberOf};
 ghost use Rattle.tlv.specs.Slot.{sound};
 ghost use Rattle.tlv.specs.Held.{continuationOf};
 ghost use Rattle.intake.specs.Slot.{searching, holding, noted, cursorFrom, readingFrom};
@@ -11,6 +13,8 @@ use crate::held::Cursor;
 use crate::held::Held;
 use crate::held::Intake;
 use tlv::held::Continuation;
+use tlv::note::SlotNote;
+use tlv::note::number;
 use tmcc::layout::Pointers;
 
 // Where the slot stands in packet memory, behind the longest held packet.
@@ -56,9 +60,9 @@ pub(crate) fn read_from(note: u8, packet: usize, top: u16, len: usize) -> Intake
     Intake { held, cursor }
 }
 
-// An unsound slot: note 41, and searching.
+// An unsound slot: its note, and searching.
 pub(crate) fn mark_unsound() -> Intake
-    ensures { λ r. ⌜ r ≡ record { held = searching; cursor = noted 41 } ⌝ }
+    ensures { λ r. ⌜ r ≡ record { held = searching; cursor = noted (numberOf Unsound) } ⌝ }
 {
     let held = Held {
         on: false,
@@ -66,7 +70,7 @@ pub(crate) fn mark_unsound() -> Intake
         len: 0,
     };
     let cursor = Cursor {
-        note: 41,
+        note: number(SlotNote::Unsound),
         packet: 0,
         reading: false,
         at: 0,
@@ -156,8 +160,7 @@ fn resume_slot(held: Held, packet: &mut [u8], bytes: &[u8], t: Pointers) -> Inta
     let n = held_len(held, packet);
     let c = resume(held, packet, bytes, t);
     match c {
-        Continuation::TooLong => read_from(43, 0, t.0, len),
-        Continuation::Misfit => read_from(42, 0, t.0, len),
+        Continuation::Dropped(note) => read_from(number(note), 0, t.0, len),
         Continuation::Ends(end) => {
             continue_packet(held, packet, bytes, end);
             end_packet(n, end, t.0, len)
@@ -187,11 +190,12 @@ pub fn take(held: Held, packet: &mut [u8], bytes: &[u8], t: Pointers) -> Intake
     read_from(0, 0, t.0, bytes.len())
 }
 
-// A lost one: searching, with note 40 if it wasn't.
+// A lost one: searching, with a note if it wasn't.
 pub fn lose(before: Held) -> Intake
     ensures { λ r. ⌜ r ≡ lostOf before ⌝ }
 {
-    let note = if before.on { 40 } else { 0 };
+    let lost = number(SlotNote::Lost);
+    let note = if before.on { lost } else { 0 };
     let held = Held {
         on: false,
         start: 0,

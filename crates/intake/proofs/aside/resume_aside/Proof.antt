@@ -12,32 +12,29 @@ use Rattle.intake.proofs.aside.resume_aside.Statement.{statement}
 use Rattle.intake.proofs.aside.resume_aside.Tie as tie
 
 -- what continues the held packet is in the slot, and fits behind the held bytes
-ends : (c : tie.After-known-told)
+ends : (c : tie.After-known-told2)
     → let a = c .before .before .before .before .before .before .before .args in
-    let k = c .before .c .given .0 .0 in
+    let k = c .before .c2 .given .0 .0 in
     (k ≤ length (now (a .bytes))) × (length (now (a .held)) + k ≤ length (now (a .packet)))
 ends c =
     let s = c .before .before .before .before .before .before .before in
-    let r = ends-room _ _ _ _ _ (s .pre .2) (sym (c .before .before .before .resume .ensures) ∙ c .before .c .given .1) in
+    let r = ends-room _ _ _ _ _ (s .pre .2) (sym (c .before .before .before .resume .ensures) ∙ c .before .c2 .given .1) in
     (r .within, r .fits _ (omega (arith, s .pre .0, s .pre .3)) (omega (arith, s .pre .0)))
 
 resume-requires : tie.Need-resume-requires
 resume-requires c κs = search needs
 
-enum-told : tie.Need-enum-told
-enum-told c = search needs
+enum-known-c : tie.Need-enum-known-c
+enum-known-c c = search needs
+
+number-requires : tie.Need-number-requires
+number-requires c κs = search needs
 
 read-from-requires : tie.Need-read-from-requires
 read-from-requires c κs = search needs
 
-enum-told-2 : tie.Need-enum-told-2
-enum-told-2 c = search needs
-
-read-from-requires-2 : tie.Need-read-from-requires-2
-read-from-requires-2 c κs = search needs
-
-enum-known-c : tie.Need-enum-known-c
-enum-known-c c = search needs
+enum-known-c-2 : tie.Need-enum-known-c-2
+enum-known-c-2 c = search needs
 
 join-requires : tie.Need-join-requires
 join-requires c κs = ends (c .before)
@@ -47,8 +44,8 @@ end-packet-requires c κs =
     let d = c .before .before .before .before in
     (omega (arith, ends d .1), d .before .before .before .before .before .before .before .pre .1)
 
-enum-told-3 : tie.Need-enum-told-3
-enum-told-3 c = search needs
+enum-told : tie.Need-enum-told
+enum-told c = search needs
 
 join-requires-2 : tie.Need-join-requires-2
 join-requires-2 c κs = search needs
@@ -59,33 +56,28 @@ extend-packet-requires c κs = search needs
 returns : tie.Need-returns
 unfolding resumedAs joinedMem
 returns c =
-    let e = sym (c .before .before .before .resume .ensures) ∙ c .before .enum-told .given .1 in
-    rw (c .read-from .ensures) (sym (joins _ _ _ _ _ e))
-
-returns-2 : tie.Need-returns-2
-unfolding resumedAs joinedMem
-returns-2 c =
-    let e = sym (c .before .before .before .resume .ensures) ∙ c .before .enum-told2 .given .1 in
-    rw (c .read-from2 .ensures) (sym (joins _ _ _ _ _ e))
+    let d = c .before .before .before in
+    let e = sym (d .before .before .resume .ensures) ∙ d .c .given .1 in
+    rw (c .read-from .ensures, c .before .number .ensures) (sym (joins _ _ _ _ _ e))
 
 same-length : tie.Need-same-length
 same-length c = search needs
 
-returns-3 : tie.Need-returns-3
+returns-2 : tie.Need-returns-2
 unfolding joinedMem
-returns-3 c =
+returns-2 c =
     let d = c .before .before .before .before .before .before in
-    let e = sym (d .before .before .resume .ensures) ∙ d .c .given .1 in
+    let e = sym (d .before .before .resume .ensures) ∙ d .c2 .given .1 in
     rw (c .end-packet .ensures, c .before .before .before .join .ensures) (sym (joins _ _ _ _ _ e))
 
 same-length-2 : tie.Need-same-length-2
 same-length-2 c = search needs
 
-returns-4 : tie.Need-returns-4
+returns-3 : tie.Need-returns-3
 unfolding resumedAs joinedMem
-returns-4 c =
+returns-3 c =
     let d = c .before .before .before .before .before in
-    let e = sym (d .before .before .resume .ensures) ∙ d .enum-told3 .given .1 in
+    let e = sym (d .before .before .resume .ensures) ∙ d .enum-told .given .1 in
     rw (c .extend-packet .ensures, c .before .before .before .join2 .ensures) (sym (joins _ _ _ _ _ e))
 
 pub resume-aside-spec : {M : Type 1} → statement M
@@ -93,19 +85,17 @@ resume-aside-spec =
     tie.close
     (tie.spec
     resume-requires
-    enum-told
-    read-from-requires
-    enum-told-2
-    read-from-requires-2
     enum-known-c
+    number-requires
+    read-from-requires
+    enum-known-c-2
     join-requires
     end-packet-requires
-    enum-told-3
+    enum-told
     join-requires-2
     extend-packet-requires
     returns
-    returns-2
     same-length
-    returns-3
+    returns-2
     same-length-2
-    returns-4)
+    returns-3)

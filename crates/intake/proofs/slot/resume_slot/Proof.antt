@@ -11,24 +11,24 @@ use Rattle.intake.proofs.slot.resume_slot.Statement.{statement}
 use Rattle.intake.proofs.slot.resume_slot.Tie as tie
 
 -- what continues the held packet is in the slot, and fits behind the held bytes
-ends : (c : tie.After-known-told)
+ends : (c : tie.After-known-told2)
     → let a = c .before .before .before .before .before .before .before .before .before .args in
-    let k = c .before .c .given .0 .0 in
+    let k = c .before .c2 .given .0 .0 in
     (k ≤ length (now (a .bytes))) × (heldLen (a .held) (now (a .packet)) + k ≤ length (now (a .packet)))
 ends c =
     let s = c .before .before .before .before .before .before .before .before .before in
     let a = s .args in
-    let r = ends-room _ _ _ _ _ (s .pre .2) (sym (c .before .before .before .resume .ensures) ∙ c .before .c .given .1) in
+    let r = ends-room _ _ _ _ _ (s .pre .2) (sym (c .before .before .before .resume .ensures) ∙ c .before .c2 .given .1) in
     (r .within, held-fits (a .held) (now (a .packet)) (now (a .bytes)) _ (omega (arith, s .pre .0)) r)
 
-goes-on : (c : tie.After-enum-told3)
+goes-on : (c : tie.After-enum-told)
     → let a = c .before .before .before .before .before .before .before .before .args in
     let k = length (now (a .bytes)) in
     (k ≤ length (now (a .bytes))) × (heldLen (a .held) (now (a .packet)) + k ≤ length (now (a .packet)))
 goes-on c =
     let s = c .before .before .before .before .before .before .before .before in
     let a = s .args in
-    let r = goes-on-room _ _ _ _ (sym (c .before .before .resume .ensures) ∙ c .enum-told3 .given .1) in
+    let r = goes-on-room _ _ _ _ (sym (c .before .before .resume .ensures) ∙ c .enum-told .given .1) in
     (r .within, held-fits (a .held) (now (a .packet)) (now (a .bytes)) _ (omega (arith, s .pre .0)) r)
 
 held-len-requires : tie.Need-held-len-requires
@@ -37,20 +37,17 @@ held-len-requires c κs = search needs
 resume-requires : tie.Need-resume-requires
 resume-requires c κs = search needs
 
-enum-told : tie.Need-enum-told
-enum-told c = search needs
+enum-known-c : tie.Need-enum-known-c
+enum-known-c c = search needs
+
+number-requires : tie.Need-number-requires
+number-requires c κs = search needs
 
 read-from-requires : tie.Need-read-from-requires
 read-from-requires c κs = search needs
 
-enum-told-2 : tie.Need-enum-told-2
-enum-told-2 c = search needs
-
-read-from-requires-2 : tie.Need-read-from-requires-2
-read-from-requires-2 c κs = search needs
-
-enum-known-c : tie.Need-enum-known-c
-enum-known-c c = search needs
+enum-known-c-2 : tie.Need-enum-known-c-2
+enum-known-c-2 c = search needs
 
 continue-packet-requires : tie.Need-continue-packet-requires
 continue-packet-requires c κs = ends (c .before)
@@ -61,8 +58,8 @@ end-packet-requires c κs =
     let s = d .before .before .before .before .before in
     (omega (arith, s .held-len .ensures, ends d .1), s .before .before .before .before .pre .1)
 
-enum-told-3 : tie.Need-enum-told-3
-enum-told-3 c = search needs
+enum-told : tie.Need-enum-told
+enum-told c = search needs
 
 continue-packet-requires-2 : tie.Need-continue-packet-requires-2
 continue-packet-requires-2 c κs = goes-on (c .before)
@@ -78,38 +75,30 @@ same-length c = search needs
 returns : tie.Need-returns
 unfolding resumedAs resumedMem
 returns c =
-    let e = sym (c .before .before .before .resume .ensures) ∙ c .before .enum-told .given .1 in
-    rw (c .read-from .ensures) (sym (resumed _ _ _ _ _ e))
+    let d = c .before .before .before in
+    let e = sym (d .before .before .resume .ensures) ∙ d .c .given .1 in
+    rw (c .read-from .ensures, c .before .number .ensures) (sym (resumed _ _ _ _ _ e))
 
 same-length-2 : tie.Need-same-length-2
 same-length-2 c = search needs
 
 returns-2 : tie.Need-returns-2
-unfolding resumedAs resumedMem
+unfolding resumedMem
 returns-2 c =
-    let e = sym (c .before .before .before .resume .ensures) ∙ c .before .enum-told2 .given .1 in
-    rw (c .read-from2 .ensures) (sym (resumed _ _ _ _ _ e))
+    let d = c .before .before .before .before .before .before in
+    let n = d .before .before .before .before .held-len .ensures in
+    let e = sym (d .before .before .resume .ensures) ∙ d .c2 .given .1 in
+    rw (c .end-packet .ensures, n, c .before .before .before .continue-packet .ensures) (sym (resumed _ _ _ _ _ e))
 
 same-length-3 : tie.Need-same-length-3
 same-length-3 c = search needs
 
 returns-3 : tie.Need-returns-3
-unfolding resumedMem
-returns-3 c =
-    let d = c .before .before .before .before .before .before in
-    let n = d .before .before .before .before .held-len .ensures in
-    let e = sym (d .before .before .resume .ensures) ∙ d .c .given .1 in
-    rw (c .end-packet .ensures, n, c .before .before .before .continue-packet .ensures) (sym (resumed _ _ _ _ _ e))
-
-same-length-4 : tie.Need-same-length-4
-same-length-4 c = search needs
-
-returns-4 : tie.Need-returns-4
 unfolding resumedAs resumedMem
-returns-4 c =
+returns-3 c =
     let d = c .before .before .before .before .before in
     let n = d .before .before .before .before .held-len .ensures in
-    let e = sym (d .before .before .resume .ensures) ∙ d .enum-told3 .given .1 in
+    let e = sym (d .before .before .resume .ensures) ∙ d .enum-told .given .1 in
     rw (c .extend-packet .ensures, n, c .before .before .before .continue-packet2 .ensures) (sym (resumed _ _ _ _ _ e))
 
 pub resume-slot-spec : {M : Type 1} → statement M
@@ -118,14 +107,13 @@ resume-slot-spec =
     (tie.spec
     held-len-requires
     resume-requires
-    enum-told
-    read-from-requires
-    enum-told-2
-    read-from-requires-2
     enum-known-c
+    number-requires
+    read-from-requires
+    enum-known-c-2
     continue-packet-requires
     end-packet-requires
-    enum-told-3
+    enum-told
     continue-packet-requires-2
     extend-packet-requires
     same-length
@@ -133,6 +121,4 @@ resume-slot-spec =
     same-length-2
     returns-2
     same-length-3
-    returns-3
-    same-length-4
-    returns-4)
+    returns-3)
