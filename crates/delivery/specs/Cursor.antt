@@ -10,6 +10,8 @@ use Rattle.delivery.specs.Choice.{chosen, chosen-not}
 use Rattle.wire.specs.Memory.{partOf}
 use Rattle.tlv.specs.declared.packet.Next.{Next}
 use Rattle.tlv.specs.declared.packet.Next.the-variants.{Packet as PacketTo, Tail as TailAt}
+use Rattle.tlv.specs.declared.note.SlotNote.the-variants.{TooLong}
+use Rattle.tlv.specs.Notes.{numberOf}
 use Rattle.tlv.specs.Packet.{packetAt, tooLong, complete, total}
 use Rattle.delivery.specs.declared.event.Event.{Event as AnEvent}
 use Rattle.delivery.specs.declared.event.Event.the-variants.{Nothing, Note, Unit, Refused}
@@ -28,7 +30,7 @@ use Rattle.delivery.specs.Within.{part-length}
 
 -- "a tail is held, but one whose known total is above 16,384 gives 43"
 unfoldable pub tailAdvanced : List ℕ → ℕ → ℕ → Advanced
-tailAdvanced s at end = record { found = cond (tooLong (drop at s)) (Event (Note 43 0)) (Tail at (end - at)); cursor = noted 0 }
+tailAdvanced s at end = record { found = cond (tooLong (drop at s)) (Event (Note (numberOf TooLong) 0)) (Tail at (end - at)); cursor = noted 0 }
 
 -- what stands at the cursor in the slot, and the cursor past it
 abbrev pub advancedBy : Next → Cursor → List ℕ → Advanced
@@ -162,7 +164,7 @@ module _ (cur : Cursor) (p : List ℕ) where
 
 -- the tail
 module _ (s : List ℕ) (at end : ℕ) where
-  pub tail-long : tooLong (drop at s) ≡ true → tailAdvanced s at end ≡ record { found = Event (Note 43 0); cursor = noted 0 }
+  pub tail-long : tooLong (drop at s) ≡ true → tailAdvanced s at end ≡ record { found = Event (Note (numberOf TooLong) 0); cursor = noted 0 }
   unfolding tailAdvanced
   tail-long h = rw h
 

@@ -6,14 +6,16 @@ use mathlib.Core.List.{List}
 use lib.ListN.{drop}
 use Rattle.wire.specs.Memory.{partOf, pasted}
 use Rattle.mmtp.specs.declared.flow.Flow.{Flow}
-use Rattle.mmtp.specs.declared.flow.Flow.the-variants.{Silent as OtherFlow, Malformed, Mmtp}
+use Rattle.mmtp.specs.declared.flow.Flow.the-variants.{Silent as OtherFlow, Noted as NotedFlow, Mmtp}
 use Rattle.mmtp.specs.declared.packet.Packet.{Packet}
 use Rattle.mmtp.specs.declared.packet.Reading.{Reading}
-use Rattle.mmtp.specs.declared.packet.Reading.the-variants.{Silent as Unwatched, BadHeader, BadPayload, Good as GoodPacket}
+use Rattle.mmtp.specs.declared.packet.Reading.the-variants.{Silent as Unwatched, Noted as NotedPacket, Good as GoodPacket}
 use Rattle.mmtp.specs.declared.unit.DataUnit.{DataUnit}
 use Rattle.mmtp.specs.declared.unit.Step.{Step}
 use Rattle.mmtp.specs.declared.unit.Step.the-variants.{Unit, Malformed as NoUnit, End}
 use Rattle.mmtp.specs.declared.payload.Payload.{Payload}
+use Rattle.mmtp.specs.declared.note.PacketNote.{PacketNote}
+use Rattle.mmtp.specs.Notes.{numberOf}
 use Rattle.mmtp.specs.Flow.{flowOf}
 use Rattle.mmtp.specs.Packet.{readingOf}
 use Rattle.mmtp.specs.Unit.{noFields, singleAt}
@@ -38,13 +40,12 @@ use Rattle.delivery.specs.declared.packet.JoinedPacket.{JoinedPacket}
 -- an MMTP packet that stands from `start` to `end`
 abbrev pub readBy : Reading → ℕ → ℕ → Arrived
 readBy Unwatched start end = Silent
-readBy BadHeader start end = Noted 51 0
-readBy (BadPayload id) start end = Noted 52 id
+readBy (NotedPacket n id) start end = Noted n id
 readBy (GoodPacket p) start end = Good (record { packet = p; start = start; end = end })
 
 abbrev pub flowBy : Flow → Config → List ℕ → ℕ → ℕ → Arrived
 flowBy OtherFlow c b start end = Silent
-flowBy Malformed c b start end = Noted 50 0
+flowBy (NotedFlow n) c b start end = Noted n 0
 flowBy (Mmtp n) c b start end = readBy (readingOf (drop n b) (c .watch)) (start + n) end
 
 -- the TLV packet that stands from `start` to `end` in packet memory
@@ -169,9 +170,9 @@ Fits Silent limit n = Unit₀
 Fits (Noted m id) limit n = Unit₀
 Fits (Good l) limit n = l .packet .place * limit + limit ≤ n
 
--- what next has yet to give of a packet with note 50, 51 or 52
-abbrev pub noteQueue : ℕ → ℕ → Queue
-noteQueue n id = record { note = n; over = false; «packet_id» = id; give = Nothing }
+-- what next has yet to give of a packet that is noted before it comes to joining
+abbrev pub noteQueue : PacketNote → ℕ → Queue
+noteQueue n id = record { note = numberOf n; over = false; «packet_id» = id; give = Nothing }
 
 -- a packet comes to the state of its packet_id, and to an empty queue
 unfoldable pub receivedOf : Arrived → Channel → Queue → List ℕ → List ℕ → ℕ → JoinedPacket × List ℕ
@@ -187,9 +188,10 @@ module _ (c : Config) (p : List ℕ) (start end : ℕ) where
   unfolding arrivedAt
   arrived-silent e = rw e
 
-  pub arrived-malformed : flowOf (partOf p start (end - start)) (c .cid) ≡ Malformed → arrivedAt c p start end ≡ Noted 50 0
+  pub arrived-noted : (n : PacketNote) → flowOf (partOf p start (end - start)) (c .cid) ≡ NotedFlow n
+      → arrivedAt c p start end ≡ Noted n 0
   unfolding arrivedAt
-  arrived-malformed e = rw e
+  arrived-noted n e = rw e
 
   pub arrived-mmtp : (n : ℕ) → flowOf (partOf p start (end - start)) (c .cid) ≡ Mmtp n
       → arrivedAt c p start end ≡ readBy (readingOf (drop n (partOf p start (end - start))) (c .watch)) (start + n) end

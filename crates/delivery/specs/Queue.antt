@@ -10,6 +10,8 @@ use Rattle.wire.specs.Memory.{partOf}
 use Rattle.mmtp.specs.declared.unit.Step.{Step}
 use Rattle.mmtp.specs.declared.unit.Step.the-variants.{Unit as UnitAt, Malformed, End}
 use Rattle.mmtp.specs.Unit.{unitAt}
+use Rattle.reassembly.specs.declared.note.JoinNote.the-variants.{AboveLimit}
+use Rattle.reassembly.specs.Notes.{numberOf}
 use Rattle.delivery.specs.declared.event.Event.the-variants.{Nothing, Note, Unit}
 use Rattle.delivery.specs.declared.event.Given.{Given}
 use Rattle.delivery.specs.declared.queue.Give.{Give}
@@ -54,7 +56,7 @@ takenOf q p =
     cond (eqb (q .note) 0)
     (cond (q .over)
     (record {
-      event = Note 64 (q .«packet_id»);
+      event = Note (numberOf AboveLimit) (q .«packet_id»);
       queue = record { note = 0; over = false; «packet_id» = q .«packet_id»; give = q .give };
     })
     (giveBy (q .give) q p))
@@ -78,7 +80,7 @@ module _ (q : Queue) (p : List ℕ) where
   pub taken-over : q .note ≡ 0 → q .over ≡ true
       → takenOf q p
       ≡ record {
-        event = Note 64 (q .«packet_id»);
+        event = Note (numberOf AboveLimit) (q .«packet_id»);
         queue = record { note = 0; over = false; «packet_id» = q .«packet_id»; give = q .give };
       }
   unfolding takenOf

@@ -11,9 +11,9 @@ use lib.Dec.{leb, ltb}
 use lib.Seq.{take-take, length-take-le}
 use Rattle.wire.specs.Memory.{partOf, pasted, length-pasted}
 use Rattle.mmtp.specs.declared.flow.Flow.{Flow}
-use Rattle.mmtp.specs.declared.flow.Flow.the-variants.{Silent as OtherFlow, Malformed, Mmtp}
+use Rattle.mmtp.specs.declared.flow.Flow.the-variants.{Silent as OtherFlow, Noted as NotedFlow, Mmtp}
 use Rattle.mmtp.specs.declared.packet.Reading.{Reading}
-use Rattle.mmtp.specs.declared.packet.Reading.the-variants.{Silent as Unwatched, BadHeader, BadPayload, Good as GoodPacket}
+use Rattle.mmtp.specs.declared.packet.Reading.the-variants.{Silent as Unwatched, Noted as NotedPacket, Good as GoodPacket}
 use Rattle.mmtp.specs.declared.payload.Payload.{Payload}
 use Rattle.mmtp.specs.declared.payload.Indicator.{Indicator}
 use Rattle.mmtp.specs.declared.payload.Indicator.the-variants.{Whole as FI00, First, Middle, Last}
@@ -145,8 +145,7 @@ module _ (c : Config) (p : List ℕ) (start end : ℕ) where
   reading-place : (b : List ℕ) (r : Reading) (from : ℕ) (l : Located) → readingOf b (c .watch) ≡ r → readBy r from end ≡ Good l
       → Watched c l
   reading-place b Unwatched from l e q = let z : _≡_ {A = ℕ} 0 1 = cc in absurd (omega arith)
-  reading-place b BadHeader from l e q = let z : _≡_ {A = ℕ} 0 1 = cc in absurd (omega arith)
-  reading-place b (BadPayload id) from l e q = let z : _≡_ {A = ℕ} 0 1 = cc in absurd (omega arith)
+  reading-place b (NotedPacket n id) from l e q = let z : _≡_ {A = ℕ} 0 1 = cc in absurd (omega arith)
   reading-place b (GoodPacket k) from l e q =
       let r : record { packet = k; start = from; end = end } ≡ l = cc in
       let w = packet-place b (c .watch) k e in
@@ -154,7 +153,7 @@ module _ (c : Config) (p : List ℕ) (start end : ℕ) where
 
   flow-place : (b : List ℕ) (f : Flow) (l : Located) → flowBy f c b start end ≡ Good l → Watched c l
   flow-place b OtherFlow l q = let z : _≡_ {A = ℕ} 0 1 = cc in absurd (omega arith)
-  flow-place b Malformed l q = let z : _≡_ {A = ℕ} 0 1 = cc in absurd (omega arith)
+  flow-place b (NotedFlow n) l q = let z : _≡_ {A = ℕ} 0 1 = cc in absurd (omega arith)
   flow-place b (Mmtp n) l q = reading-place (drop n b) (readingOf (drop n b) (c .watch)) (start + n) l refl q
 
   pub arrived-place : (l : Located) → arrivedAt c p start end ≡ Good l → Watched c l

@@ -7,6 +7,8 @@ use crate::event::Event;
 use crate::queue::Queue;
 use crate::queue::take;
 use intake::held::Cursor;
+use tlv::note::SlotNote;
+use tlv::note::number;
 use tlv::packet::Next;
 
 // What next comes to.
@@ -43,7 +45,7 @@ pub fn is_too_long(s: &[u8], at: usize) -> bool
     tlv::packet::too_long(s, at)
 }
 
-// The tail of the slot: held, or note 43.
+// The tail of the slot: held, or noted as too long.
 fn advance_tail(s: &[u8], at: usize, end: usize) -> Advanced
     ensures { λ r. ⌜ r ≡ tailAdvanced (now (s .entry)) at end ⌝ }
 {
@@ -56,7 +58,7 @@ fn advance_tail(s: &[u8], at: usize, end: usize) -> Advanced
     };
     if is_too_long(s, at) {
         return Advanced {
-            found: Found::Event(Event::Note(43, 0)),
+            found: Found::Event(Event::Note(number(SlotNote::TooLong), 0)),
             cursor,
         };
     }

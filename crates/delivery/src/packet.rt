@@ -11,6 +11,8 @@ use crate::queue::Aggregate;
 use crate::queue::Give;
 use crate::queue::Queue;
 use mmtp::flow::Flow;
+use mmtp::note::PacketNote;
+use mmtp::note::number;
 use mmtp::packet::Packet;
 use mmtp::packet::Reading;
 use mmtp::payload::Payload;
@@ -33,8 +35,8 @@ pub struct Located {
 // What a TLV packet comes to.
 pub enum Arrived {
     Silent,
-    // Note 50, 51 or 52, and its packet_id; 0 where it has none.
-    Noted(u8, u16),
+    // A note and its packet_id; 0 where it has none.
+    Noted(PacketNote, u16),
     Good(Located),
 }
 
@@ -50,8 +52,7 @@ fn locate(reading: Reading, start: usize, end: usize) -> Arrived
 {
     match reading {
         Reading::Silent => Arrived::Silent,
-        Reading::BadHeader => Arrived::Noted(51, 0),
-        Reading::BadPayload(id) => Arrived::Noted(52, id),
+        Reading::Noted(note, id) => Arrived::Noted(note, id),
         Reading::Good(packet) => Arrived::Good(Located { packet, start, end }),
     }
 }
@@ -65,7 +66,7 @@ pub fn arrive(config: Config, memory: &[u8], start: usize, end: usize) -> Arrive
     let flow = mmtp::flow::find(bytes, config.cid);
     match flow {
         Flow::Silent => Arrived::Silent,
-        Flow::Malformed => Arrived::Noted(50, 0),
+        Flow::Noted(note) => Arrived::Noted(note, 0),
         Flow::Mmtp(n) => {
             let watch = config.watch;
             let reading = mmtp::packet::read(&bytes[n..], watch);
@@ -266,7 +267,7 @@ pub fn receive(
         Arrived::Silent => JoinedPacket { channel, queue },
         Arrived::Noted(note, id) => {
             let queue = Queue {
-                note,
+                note: number(note),
                 over: false,
                 packet_id: id,
                 give: Give::Nothing,

@@ -7,6 +7,8 @@ use crate::packet::Located;
 use crate::packet::whole;
 use mmtp::packet::Packet;
 use mmtp::unit::Step;
+use reassembly::note::JoinNote;
+use reassembly::note::number;
 
 // An aggregate whose units are being given: its packet, where that stands in packet memory, and the next unit's place in it.
 pub struct Aggregate {
@@ -23,7 +25,7 @@ pub enum Give {
     Many(Aggregate),
 }
 
-// What next has yet to give of a packet: a note, note 64, units.
+// What next has yet to give of a packet: a note, the note that it is above R, units.
 pub struct Queue {
     pub note: u8,
     pub over: bool,
@@ -117,7 +119,7 @@ pub fn take(q: Queue, memory: &[u8]) -> Taken
     if q.over {
         let queue = Queue { over: false, ..q };
         return Taken {
-            event: Event::Note(64, q.packet_id),
+            event: Event::Note(number(JoinNote::AboveLimit), q.packet_id),
             queue,
         };
     }

@@ -3,7 +3,7 @@ use lib.ListN.{length, drop}
 use Prim.Native.Nat.{_<_, _≤_, _-_}
 use native.Mathlib.Omega.{arith}
 use Rattle.delivery.specs.Within.{part-within}
-use Rattle.delivery.specs.Packet.{arrived-silent, arrived-malformed, arrived-mmtp}
+use Rattle.delivery.specs.Packet.{arrived-silent, arrived-noted, arrived-mmtp}
 use Rattle.mmtp.specs.Flow.{flowOf, mmtp-place}
 use Rattle.wire.specs.Memory.{partOf, slice-rest}
 use mathlib.Core.Path.{_≡_, sym, _∙_}
@@ -12,9 +12,9 @@ use Rattle.delivery.proofs.packet.arrive.Statement.{statement}
 use Rattle.delivery.proofs.packet.arrive.Tie as tie
 
 -- the MMTP packet lies in the TLV packet
-inside : (d : tie.After-flow) → let n = d .flow .given .0 .0 in
+inside : (d : tie.After-flow2) → let n = d .flow2 .given .0 .0 in
     (7 ≤ n) × (n ≤ length (d .before .before .before .part .result .now))
-inside d = let r = mmtp-place _ _ _ (sym (d .before .before .find .ensures) ∙ d .flow .given .1) in (r .1, r .2)
+inside d = let r = mmtp-place _ _ _ (sym (d .before .before .find .ensures) ∙ d .flow2 .given .1) in (r .1, r .2)
 
 -- the flow of the packet's bytes
 flows : (d : tie.After-find) → let a = d .before .before .before .before .args in
@@ -33,11 +33,11 @@ find-requires c κs = search needs
 enum-told : tie.Need-enum-told
 enum-told c = search needs
 
-enum-told-2 : tie.Need-enum-told-2
-enum-told-2 c = search needs
-
 enum-known-flow : tie.Need-enum-known-flow
 enum-known-flow c = search needs
+
+enum-known-flow-2 : tie.Need-enum-known-flow-2
+enum-known-flow-2 c = search needs
 
 sub-read : tie.Need-sub-read
 sub-read c = inside (c .before .before) .1
@@ -70,17 +70,17 @@ returns : tie.Need-returns
 returns c = sym (arrived-silent _ _ _ _ (flows (c .before .before) ∙ c .enum-told .given .1))
 
 returns-2 : tie.Need-returns-2
-returns-2 c = sym (arrived-malformed _ _ _ _ (flows (c .before .before) ∙ c .enum-told2 .given .1))
+returns-2 c = sym (arrived-noted _ _ _ _ _ (flows (c .before .before .before) ∙ c .before .flow .given .1))
 
 returns-3 : tie.Need-returns-3
 returns-3 c =
     let f = c .before .before .before .before .before in
     let d = f .before .before in
     let b = d .before .part .result .now in
-    let n = f .flow .given .0 .0 in
+    let n = f .flow2 .given .0 .0 in
     c .locate .ensures
     ∙ rw (c .before .read .ensures, slice-rest b n, d .before .part .ensures, d .before .before .distance .ensures)
-    (sym (arrived-mmtp _ _ _ _ _ (flows d ∙ f .flow .given .1)))
+    (sym (arrived-mmtp _ _ _ _ _ (flows d ∙ f .flow2 .given .1)))
 
 pub arrive-spec : {M : Type 1} → statement M
 arrive-spec =
@@ -90,8 +90,8 @@ arrive-spec =
     part-requires
     find-requires
     enum-told
-    enum-told-2
     enum-known-flow
+    enum-known-flow-2
     sub-read
     part-read-start
     part-read-end

@@ -10,6 +10,9 @@ enum-told c = search needs
 enum-known-arrived : tie.Need-enum-known-arrived
 enum-known-arrived c = search needs
 
+number-requires : tie.Need-number-requires
+number-requires c κs = search needs
+
 enum-known-arrived-2 : tie.Need-enum-known-arrived-2
 enum-known-arrived-2 c = search needs
 
@@ -22,7 +25,7 @@ returns c = rw (c .enum-told .given .1)
 
 returns-2 : tie.Need-returns-2
 unfolding receivedOf
-returns-2 c = rw (c .before .arrived .given .1)
+returns-2 c = rw (c .before .before .arrived .given .1, c .number .ensures)
 
 same-length : tie.Need-same-length
 same-length c = search needs
@@ -37,6 +40,7 @@ receive-spec =
     (tie.spec
     enum-told
     enum-known-arrived
+    number-requires
     enum-known-arrived-2
     join-requires
     returns
