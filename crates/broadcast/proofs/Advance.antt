@@ -10,6 +10,8 @@ use lib.Seq.{drop-drop}
 use lib.Dec.{eqb}
 use borrow.Author.Tests.{eqb-true}
 use Rattle.wire.specs.Memory.{partOf}
+use Rattle.tlv.specs.declared.note.SlotNote.the-variants.{TooLong}
+use Rattle.tlv.specs.Notes.{numberOf}
 use Rattle.tlv.specs.Packet.{total, complete, tooLong, cut, packetAt, inFront}
 use Rattle.tlv.specs.Cuts.{complete-fits, cut-end, cut-more}
 use Rattle.delivery.specs.declared.cursor.Advanced.{Advanced}
@@ -186,7 +188,7 @@ module _ (n k at end : ℕ) (h : Held) (p : List ℕ) (e : eqb n 0 ≡ true) (f 
     -- its tail
     tail-next : complete bytes ≡ false → (l : Bool) → tooLong bytes ≡ l → Goes (cur true at) h p (advancedOf (cur true at) p)
     tail-next m true l =
-        let r : advancedOf (cur true at) p ≡ record { found = Event (Note 43 0); cursor = noted 0 } =
+        let r : advancedOf (cur true at) p ≡ record { found = Event (Note (numberOf TooLong) 0); cursor = noted 0 } =
         unfold advancedOf slotAdvanced packetAt tailAdvanced in rw (e, f, m, l) in
         rw r (
           refl,

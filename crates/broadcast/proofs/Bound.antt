@@ -7,7 +7,7 @@ use native.Mathlib.Omega.{arith}
 use lib.ListN.{length, take, drop, getD, length-append, length-map, length-take, length-drop}
 use Rattle.tmcc.specs.declared.layout.Layout.{Layout}
 use Rattle.tlv.specs.declared.held.Continuation.{Continuation}
-use Rattle.tlv.specs.declared.held.Continuation.the-variants.{TooLong, Misfit, Ends, GoesOn}
+use Rattle.tlv.specs.declared.held.Continuation.the-variants.{Dropped, Ends, GoesOn}
 use Rattle.tlv.specs.Packet.{cut, tooLong}
 use Rattle.tlv.specs.Cuts.{row, AllSized, cut-whole, cut-sized}
 use Rattle.tlv.specs.Slot.{sound}
@@ -108,8 +108,7 @@ module _ {A : Type 0} where
   resumed-few : (k : Continuation) (n : Bool) (ls : List A) (h : List ℕ) (a : A) (s : Slot)
       → weights (resumed k n ls h a s .events) ≤ length h + 3 * length (s .bytes) + 3
   unfolding resumed
-  resumed-few TooLong n ls h a s = omega (arith, read-few n a s)
-  resumed-few Misfit n ls h a s = omega (arith, read-few n a s)
+  resumed-few (Dropped x) n ls h a s = omega (arith, read-few n a s)
   resumed-few (Ends e) true ls h a s = omega (arith, finished-few ls h a e (s .bytes))
   resumed-few (Ends e) false ls h a s =
       rw weights-append (omega (arith, finished-few ls h a e (s .bytes), read-few false a s))

@@ -8,9 +8,9 @@ use borrow.Author.Tests.{eqb-false}
 use lib.Dec.{eqb}
 use lib.ListN.{length, drop, length-drop, length-append, length-map}
 use Rattle.mmtp.specs.declared.flow.Flow.{Flow}
-use Rattle.mmtp.specs.declared.flow.Flow.the-variants.{Silent as OtherFlow, Malformed, Mmtp}
+use Rattle.mmtp.specs.declared.flow.Flow.the-variants.{Silent as OtherFlow, Noted as NotedFlow, Mmtp}
 use Rattle.mmtp.specs.declared.packet.Reading.{Reading}
-use Rattle.mmtp.specs.declared.packet.Reading.the-variants.{Silent as Unwatched, BadHeader, BadPayload, Good as GoodPacket}
+use Rattle.mmtp.specs.declared.packet.Reading.the-variants.{Silent as Unwatched, Noted as NotedPacket, Good as GoodPacket}
 use Rattle.mmtp.specs.declared.payload.Payload.{Payload}
 use Rattle.mmtp.specs.Flow.{flowOf, mmtp-place}
 use Rattle.mmtp.specs.Packet.{readingOf}
@@ -31,6 +31,8 @@ use Rattle.reassembly.specs.declared.config.Config.{Config}
 use Rattle.reassembly.specs.declared.join.Action.{Action}
 use Rattle.reassembly.specs.declared.join.Action.the-variants.{Nothing, Whole as GiveWhole, Store, Complete}
 use Rattle.reassembly.specs.declared.join.Joined.{Joined}
+use Rattle.reassembly.specs.declared.note.JoinNote.the-variants.{AboveLimit}
+use Rattle.reassembly.specs.Notes.{numberOf}
 use Rattle.reassembly.specs.Join.{notesOf, joinOf}
 use Rattle.reassembly.specs.Run.{Input, note, Line, given, lineAfter, step}
 use Rattle.broadcast.specs.Account.{inputFrom, readOf, afterRead, readBy, flowBy}
@@ -73,7 +75,7 @@ notes-count : (j : Joined) → length (notesOf j) ≤ 2
 unfolding notesOf
 notes-count j = go (eqb (j .note) 0) (j .over)
   where
-    go : (t v : Bool) → length (cond t [] (j .note ∷ []) ++ cond v (64 ∷ []) []) ≤ 2
+    go : (t v : Bool) → length (cond t [] (j .note ∷ []) ++ cond v (numberOf AboveLimit ∷ []) []) ≤ 2
     go true true = omega arith
     go true false = omega arith
     go false true = omega arith
@@ -99,8 +101,7 @@ step-count limit l a x n h z =
 module _ {A : Type 0} (cfg : Config) (f : ℕ → Line A) (a : A) where
   read-count : (m : List ℕ) (r : Reading) → length (afterRead cfg (readBy r m) f a .events) ≤ suc (length m) + 2
   read-count m Unwatched = omega arith
-  read-count m BadHeader = omega arith
-  read-count m (BadPayload id) = omega arith
+  read-count m (NotedPacket n id) = omega arith
   read-count m (GoodPacket k) =
       let us = piecesOf m (k .payload) in
       let x = inputFrom k us in
@@ -110,7 +111,7 @@ module _ {A : Type 0} (cfg : Config) (f : ℕ → Line A) (a : A) where
   flow-count : (b : List ℕ) (fl : Flow) → flowOf b (cfg .cid) ≡ fl
       → length (afterRead cfg (flowBy fl cfg b) f a .events) ≤ length b + 2
   flow-count b OtherFlow e = omega arith
-  flow-count b Malformed e = omega arith
+  flow-count b (NotedFlow n) e = omega arith
   flow-count b (Mmtp n) e =
       let i = mmtp-place b (cfg .cid) n e in
       let r = read-count (drop n b) (readingOf (drop n b) (cfg .watch)) in

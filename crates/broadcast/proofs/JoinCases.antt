@@ -15,6 +15,8 @@ use Rattle.reassembly.specs.declared.join.Piece.{Piece}
 use Rattle.reassembly.specs.declared.join.Action.{Action}
 use Rattle.reassembly.specs.declared.join.Action.the-variants.{Nothing, Whole as GiveWhole, Store, Complete}
 use Rattle.reassembly.specs.declared.join.Joined.{Joined}
+use Rattle.reassembly.specs.declared.note.JoinNote.the-variants.{Gap, Headless, Apart}
+use Rattle.reassembly.specs.Notes.{numberOf}
 use Rattle.reassembly.specs.Unit.{agrees}
 use Rattle.reassembly.specs.Channel.{gap}
 use Rattle.reassembly.specs.Join.{noted, begun, counterFollows, grown, extended, followed, actedBy, acted, joinOf}
@@ -56,13 +58,13 @@ module _ (limit : ℕ) (o : OpenUnit) (p : Piece) where
 
   grows-by : (l : Psn) (t v : Bool) → Follows t → Over v → Joins limit o p Middle Open (extended (at Open l) p limit false)
   unfolding extended grown
-  grows-by l false v e x = rw e (waits l 63 false)
+  grows-by l false v e x = rw e (waits l (numberOf Apart) false)
   grows-by l true true e x = rw (e, x) (waits l 0 true)
   grows-by l true false e x = rw (e, x) (grows l 0 false (ltb-false limit (o .len + p .len) x))
 
   ends-by : (l : Psn) (t v : Bool) → Follows t → Over v → Joins limit o p Last Open (extended (at Open l) p limit true)
   unfolding extended grown
-  ends-by l false v e x = rw e (waits l 63 false)
+  ends-by l false v e x = rw e (waits l (numberOf Apart) false)
   ends-by l true true e x = rw (e, x) (waits l 0 true)
   ends-by l true false e x = rw (e, x) (ends l 0 false (ltb-false limit (o .len + p .len) x))
 
@@ -72,18 +74,18 @@ module _ (limit : ℕ) (o : OpenUnit) (p : Piece) where
   acts First ph l = begins-by ph l _ _ refl
   acts Middle Unheard l = waits l 0 false
   acts Middle Waiting l = waits l 0 false
-  acts Middle Idle l = waits l 62 false
+  acts Middle Idle l = waits l (numberOf Headless) false
   acts Middle Open l = grows-by l _ _ refl refl
   acts Last Unheard l = waits l 0 false
   acts Last Waiting l = waits l 0 false
-  acts Last Idle l = waits l 62 false
+  acts Last Idle l = waits l (numberOf Headless) false
   acts Last Open l = ends-by l _ _ refl refl
 
   -- after a gap the piece comes to a packet_id that waits
   after-gap : (f : Indicator) (ph : Phase) (j : Joined) → Joins limit o p f Waiting j → Joins limit o p f ph (noted 60 j)
-  after-gap f ph j (waits l n v) = waits l 60 v
-  after-gap Whole ph j (gives l n v) = gives l 60 v
-  after-gap First ph j (begins l n v h) = begins l 60 v h
+  after-gap f ph j (waits l n v) = waits l (numberOf Gap) v
+  after-gap Whole ph j (gives l n v) = gives l (numberOf Gap) v
+  after-gap First ph j (begins l n v h) = begins l (numberOf Gap) v h
 
 pub joins : (limit : ℕ) (ch : Channel) (p : Piece) → Joins limit (ch .current) p (p .indicator) (ch .phase) (joinOf ch p limit)
 unfolding joinOf acted

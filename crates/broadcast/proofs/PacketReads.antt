@@ -10,9 +10,11 @@ use lib.ListN.{length, getD, set, drop, length-set}
 use lib.Seq.{getD-set-same, getD-set-other}
 use Rattle.wire.specs.Memory.{partOf}
 use Rattle.mmtp.specs.declared.flow.Flow.{Flow}
-use Rattle.mmtp.specs.declared.flow.Flow.the-variants.{Silent as OtherFlow, Malformed, Mmtp}
+use Rattle.mmtp.specs.declared.flow.Flow.the-variants.{Silent as OtherFlow, Noted as NotedFlow, Mmtp}
 use Rattle.mmtp.specs.declared.packet.Reading.{Reading}
-use Rattle.mmtp.specs.declared.packet.Reading.the-variants.{Silent as Unwatched, BadHeader, BadPayload, Good as GoodPacket}
+use Rattle.mmtp.specs.declared.packet.Reading.the-variants.{Silent as Unwatched, Noted as NotedPacket, Good as GoodPacket}
+use Rattle.mmtp.specs.Notes as packet
+use Rattle.mmtp.specs.Notes.{not-none}
 use Rattle.mmtp.specs.Flow.{flowOf, mmtp-place}
 use Rattle.mmtp.specs.Packet.{readingOf, packet-is, packet-place}
 use Rattle.mmtp.specs.Payload.{unitsFit, piecesOf, payload-read}
@@ -20,6 +22,8 @@ use Rattle.reassembly.specs.declared.channel.Channel.{Channel}
 use Rattle.reassembly.specs.declared.config.Config.{Config}
 use Rattle.reassembly.specs.declared.join.Joined.{Joined}
 use Rattle.reassembly.specs.Channel.{unheard}
+use Rattle.reassembly.specs.declared.note.JoinNote.the-variants.{AboveLimit}
+use Rattle.reassembly.specs.Notes.{numberOf}
 use Rattle.reassembly.specs.Join.{notesOf}
 use Rattle.reassembly.specs.Run.{Input, Event, note as account-note, Line, lineAfter, eventsOf, step, withLine}
 use Rattle.delivery.specs.declared.packet.Located.{Located}
@@ -58,8 +62,8 @@ empty-good q p e = rw (e .2) tt
 -- a packet's notes, then its units
 module _ {A : Type 0} (id : ℕ) (g : List Shown) (es : List (Event A)) (h : g ≡ map strip es) where
   notes-first : (n : ℕ) (t v : Bool)
-      → cond t [] (note n id ∷ []) ++ (cond v (note 64 id ∷ []) [] ++ g)
-      ≡ map strip (map (λ (k : ℕ). account-note k id) (cond t [] (n ∷ []) ++ cond v (64 ∷ []) []) ++ es)
+      → cond t [] (note n id ∷ []) ++ (cond v (note (numberOf AboveLimit) id ∷ []) [] ++ g)
+      ≡ map strip (map (λ (k : ℕ). account-note k id) (cond t [] (n ∷ []) ++ cond v (numberOf AboveLimit ∷ []) []) ++ es)
   notes-first n true true = rw h
   notes-first n true false = rw h
   notes-first n false true = rw h
@@ -187,8 +191,7 @@ module _ {A : Type 0} (st : State) (p c : List ℕ) (f : ℕ → Line (List A)) 
       → (r : Reading) → readingOf m (st .config .watch) ≡ r
       → Stood (arrivedBy (readBy r start end) st p c) (afterRead (st .config) (accountRead r m) f a)
   read-stands m start end e Unwatched q = silent-stands
-  read-stands m start end e BadHeader q = noted-stands 51 0 refl
-  read-stands m start end e (BadPayload id) q = noted-stands 52 id refl
+  read-stands m start end e (NotedPacket n id) q = noted-stands (packet.numberOf n) id (not-none n)
   read-stands m start end e (GoodPacket pk) q =
       let l : Located = record { packet = pk; start = start; end = end } in
       let w = packet-is m (st .config .watch) pk q in
@@ -201,7 +204,7 @@ module _ {A : Type 0} (st : State) (p c : List ℕ) (f : ℕ → Line (List A)) 
       → let b = partOf p s (e - s) in
       Stood (arrivedBy (flowBy fl (st .config) b s e) st p c) (afterRead (st .config) (accountFlow fl (st .config) b) f a)
   flow-stands s e se el OtherFlow q = silent-stands
-  flow-stands s e se el Malformed q = noted-stands 50 0 refl
+  flow-stands s e se el (NotedFlow n) q = noted-stands (packet.numberOf n) 0 (not-none n)
   flow-stands s e se el (Mmtp n) q =
       let b = partOf p s (e - s) in
       let i = mmtp-place b (st .config .cid) n q in

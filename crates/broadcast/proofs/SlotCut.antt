@@ -6,6 +6,8 @@ use mathlib.Core.List.{List, [], _∷_, _++_, map, map-map, map-append}
 use native.Mathlib.Omega.{arith}
 use lib.ListN.{length, drop}
 use Rattle.wire.specs.Memory.{partOf}
+use Rattle.tlv.specs.declared.note.SlotNote.the-variants.{TooLong}
+use Rattle.tlv.specs.Notes.{numberOf}
 use Rattle.tlv.specs.Packet.{tooLong, Cut, cut}
 use Rattle.tlv.specs.Run.{packetOf, after, Stepped, kept}
 use Rattle.intake.specs.declared.held.Cursor.{Cursor}
@@ -17,7 +19,7 @@ use Rattle.broadcast.specs.SlotClaims.{Short}
 
 -- what is read of a slot, and what is left held, by the cut of its bytes
 abbrev pub cutGives : Cut → List Found
-cutGives r = map a-packet (r .packets) ++ cond (tooLong (r .tail)) (slot-notes 43 ∷ []) []
+cutGives r = map a-packet (r .packets) ++ cond (tooLong (r .tail)) (slot-notes (numberOf TooLong) ∷ []) []
 
 abbrev pub tailLeft : Bool → ℕ → ℕ → Held
 tailLeft true end n = searching
@@ -42,7 +44,7 @@ module _ {A : Type 0} (a : A) where
   bare-packets : (ps : List (List ℕ)) → map bare (map (packetOf (a ∷ [])) ps) ≡ map a-packet ps
   bare-packets ps = map-map bare (packetOf (a ∷ [])) ps
 
-  bare-tail : (l : Bool) (b : List ℕ) → map bare (kept l a b .events) ≡ cond l (slot-notes 43 ∷ []) []
+  bare-tail : (l : Bool) (b : List ℕ) → map bare (kept l a b .events) ≡ cond l (slot-notes (numberOf TooLong) ∷ []) []
   unfolding kept
   bare-tail true b = refl
   bare-tail false b = refl

@@ -12,7 +12,9 @@ use borrow.Author.Tests.{ne-eqb}
 use Rattle.wire.specs.Memory.{partOf}
 use Rattle.tmcc.specs.declared.layout.Pointers.{Pointers}
 use Rattle.tlv.specs.declared.held.Continuation.{Continuation}
-use Rattle.tlv.specs.declared.held.Continuation.the-variants.{TooLong, Misfit, Ends, GoesOn}
+use Rattle.tlv.specs.declared.held.Continuation.the-variants.{Dropped, Ends, GoesOn}
+use Rattle.tlv.specs.declared.note.SlotNote.the-variants.{Lost, Unsound}
+use Rattle.tlv.specs.Notes.{numberOf, not-none}
 use Rattle.tlv.specs.Packet.{cut}
 use Rattle.tlv.specs.Cuts.{cut-tail-length}
 use Rattle.tlv.specs.Slot.{none, sound}
@@ -265,12 +267,9 @@ module _ {A : Type 0} (a : A) (st : State) (p d : List ℕ) (top last : ℕ) (ow
         → Reads st (st .frame) p (withIntake st (resumedAs k (length bytes) top (length d)), copied (resumedMem k (st .held) p d) d)
         (resumed k b ls bytes a (slotOf d top last))
     unfolding resumedAs resumedMem resumed
-    resumed-reads TooLong b z t f =
+    resumed-reads (Dropped x) b z t f =
         made st p owed _ _ _ _ (length-copied p d room)
-        (from-same a d top last small p room b z t 43 0 (omega arith) (note 43 ∷ []) refl)
-    resumed-reads Misfit b z t f =
-        made st p owed _ _ _ _ (length-copied p d room)
-        (from-same a d top last small p room b z t 42 0 (omega arith) (note 42 ∷ []) refl)
+        (from-same a d top last small p room b z t (numberOf x) 0 (omega arith) (note (numberOf x) ∷ []) (rw (not-none x)))
     resumed-reads (Ends e) true z t f =
         rw z (made st p owed _ _ _ _ (out-length inside e (f .0) (f .1)) (ends-same inside e (f .0) (f .1) ls z))
     resumed-reads (Ends e) false z t f =
@@ -298,7 +297,7 @@ module _ {A : Type 0} (a : A) (st : State) (p d : List ℕ) (t : Pointers) (owed
       → Own b (st .held .on) (arrived b tl a (slotFrom d t))
   unfolding arrived
   own-by false e tl h l =
-      made st p owed _ _ _ _ (length-copied p d room) (stops-same 41 (note 41 ∷ []) (copied p d) refl)
+      made st p owed _ _ _ _ (length-copied p d room) (stops-same (numberOf Unsound) (note (numberOf Unsound) ∷ []) (copied p d) refl)
   own-by true e slot-searching h l =
       subst (λ (on : Bool). Own true on (readFrom (eqb (t .0) none) a (slotFrom d t))) (sym h)
       (made st p owed _ _ _ _ (length-copied p d room)
@@ -316,11 +315,11 @@ module _ {A : Type 0} (a : A) (st : State) (p d : List ℕ) (t : Pointers) (owed
 -- a lost slot
 module _ {A : Type 0} (st : State) (p : List ℕ) where
   loss-by : (tl : Slot-state A) (on : Bool) → st .held .on ≡ on → HeldIs (st .held) p tl
-      → Same (noted (cond on 40 0)) searching p (step tl lost)
+      → Same (noted (cond on (numberOf Lost) 0)) searching p (step tl lost)
   unfolding step
   loss-by slot-searching true e h = absurd (true≢false (sym e ∙ h))
   loss-by slot-searching false e h = stops-same 0 [] p refl
-  loss-by (held ls b) true e h = stops-same 40 (note 40 ∷ []) p refl
+  loss-by (held ls b) true e h = stops-same (numberOf Lost) (note (numberOf Lost) ∷ []) p refl
   loss-by (held ls b) false e h = absurd (true≢false (sym (h .0) ∙ e))
 
   loss-reads : (tl : Slot-state A) → HeldIs (st .held) p tl → Reads st (st .frame) p (lossOf st, p) (step tl lost)

@@ -5,10 +5,11 @@ use mathlib.Core.Bool.{cond}
 use mathlib.Core.List.{List, [], _∷_, _++_, map}
 use lib.ListN.{length, drop}
 use Rattle.mmtp.specs.declared.flow.Flow.{Flow}
-use Rattle.mmtp.specs.declared.flow.Flow.the-variants.{Silent as OtherFlow, Malformed, Mmtp}
+use Rattle.mmtp.specs.declared.flow.Flow.the-variants.{Silent as OtherFlow, Noted as NotedFlow, Mmtp}
 use Rattle.mmtp.specs.declared.packet.Packet.{Packet}
 use Rattle.mmtp.specs.declared.packet.Reading.{Reading}
-use Rattle.mmtp.specs.declared.packet.Reading.the-variants.{Silent, BadHeader, BadPayload, Good}
+use Rattle.mmtp.specs.declared.packet.Reading.the-variants.{Silent, Noted, Good}
+use Rattle.mmtp.specs.Notes.{numberOf}
 use Rattle.mmtp.specs.Flow.{flowOf}
 use Rattle.mmtp.specs.Packet.{readingOf}
 use Rattle.mmtp.specs.Unit.{Piece, noFields}
@@ -22,6 +23,7 @@ use Rattle.tlv.specs.Run.{Event as Slot-event, note as slot-note, packet, Arriv
 -- what a TLV packet comes to
 pub data Read : Type 0 where
   silent : Read
+  -- a note's number, and its packet_id
   noted : ℕ → ℕ → Read
   input : Input → Read
 
@@ -53,13 +55,12 @@ inputFrom p us =
 
 abbrev pub readBy : Reading → List ℕ → Read
 readBy Silent m = silent
-readBy BadHeader m = noted 51 0
-readBy (BadPayload id) m = noted 52 id
+readBy (Noted n id) m = noted (numberOf n) id
 readBy (Good p) m = input (inputFrom p (piecesOf m (p .payload)))
 
 abbrev pub flowBy : Flow → Config → List ℕ → Read
 flowBy OtherFlow c b = silent
-flowBy Malformed c b = noted 50 0
+flowBy (NotedFlow n) c b = noted (numberOf n) 0
 flowBy (Mmtp n) c b = readBy (readingOf (drop n b) (c .watch)) (drop n b)
 
 -- a TLV packet, read

@@ -5,9 +5,13 @@ use mathlib.Core.List.{List, [], _∷_, _++_, map}
 use lib.ListN.{length, drop}
 use lib.Dec.{eqb}
 use Rattle.wire.specs.Memory.{partOf}
+use Rattle.tlv.specs.declared.note.SlotNote.the-variants.{TooLong}
+use Rattle.tlv.specs.Notes as slot
 use Rattle.tlv.specs.Packet.{cut, tooLong}
 use Rattle.tlv.specs.Run.{Event as Slot-event, note as slot-note, packet as slot-packet}
 use Rattle.mmtp.specs.Unit.{Piece, aggregate}
+use Rattle.reassembly.specs.declared.note.JoinNote.the-variants.{AboveLimit}
+use Rattle.reassembly.specs.Notes as joining
 use Rattle.reassembly.specs.Unit.{carried}
 use Rattle.delivery.specs.declared.queue.Aggregate.{Aggregate}
 use Rattle.intake.specs.declared.held.Cursor.{Cursor}
@@ -37,11 +41,11 @@ slotUpTo c p = partOf p 0 (c .end)
 abbrev pub tailOf : Cursor → List ℕ → List ℕ
 tailOf c p = cut (drop (c .at) (slotUpTo c p)) .tail
 
--- the packets from the cursor on, and note 43 if the tail is too long
+-- the packets from the cursor on, and a note if the tail is too long
 abbrev pub slotPending : Bool → Cursor → List ℕ → List Found
 slotPending false c p = []
 slotPending true c p =
-    map a-packet (cut (drop (c .at) (slotUpTo c p)) .packets) ++ cond (tooLong (tailOf c p)) (slot-notes 43 ∷ []) []
+    map a-packet (cut (drop (c .at) (slotUpTo c p)) .packets) ++ cond (tooLong (tailOf c p)) (slot-notes (slot.numberOf TooLong) ∷ []) []
 
 -- what the cursor has yet to give
 unfoldable pub cursorPending : Cursor → List ℕ → List Found
@@ -75,4 +79,4 @@ givePending (Many a) p c = aggregatePending a p
 unfoldable pub queuePending : Queue → List ℕ → List ℕ → List Shown
 queuePending q p c =
     some-if (q .note) (note (q .note) (q .«packet_id»))
-    ++ (cond (q .over) (note 64 (q .«packet_id») ∷ []) [] ++ givePending (q .give) p c)
+    ++ (cond (q .over) (note (joining.numberOf AboveLimit) (q .«packet_id») ∷ []) [] ++ givePending (q .give) p c)

@@ -16,6 +16,7 @@ use Rattle.receiver.specs.declared.state.State.{State}
 use Rattle.delivery.specs.declared.packet.Located.{Located}
 use Rattle.delivery.specs.declared.packet.Arrived.{Arrived}
 use Rattle.delivery.specs.declared.packet.Arrived.the-variants.{Silent, Noted, Good}
+use Rattle.mmtp.specs.declared.note.PacketNote.{PacketNote}
 use Rattle.delivery.specs.declared.cursor.Found.{Found}
 use Rattle.delivery.specs.declared.cursor.Found.the-variants.{Event, Packet, Tail, Done}
 use Rattle.delivery.specs.declared.cursor.Turn.{Turn}
@@ -79,7 +80,7 @@ module _ (st : State) (p c : List ℕ) (start end : ℕ) where
   unfolding packetOf
   packet-silent e = ap (λ (a : Arrived). arrivedBy a st p c) e
 
-  pub packet-noted : (n id : ℕ) → arrivedAt (st .config) p start end ≡ Noted n id
+  pub packet-noted : (n : PacketNote) (id : ℕ) → arrivedAt (st .config) p start end ≡ Noted n id
       → packetOf st p c start end ≡ (withQueue st (noteQueue n id), c)
   unfolding packetOf
   packet-noted n id e = ap (λ (a : Arrived). arrivedBy a st p c) e

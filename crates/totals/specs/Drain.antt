@@ -225,7 +225,7 @@ module _ (cur : Cursor) (p : List ℕ) (e : AnEvent) where
 
   line-tail : (b : Bool) → tooLong (drop (cur .at) (partOf p 0 (cur .end))) ≡ b
       → IsLine (tailAdvanced (partOf p 0 (cur .end)) (cur .at) (cur .end) .found)
-  line-tail true h = rw (tail-long _ _ (cur .end) h) (λ q. let r : Note 43 0 ≡ e = cc in rw (← r) refl)
+  line-tail true h = rw (tail-long _ _ (cur .end) h) (λ q. let r : Note (numberOf TooLong) 0 ≡ e = cc in rw (← r) refl)
   line-tail false h = rw (tail-held _ _ (cur .end) h) (λ q. cc)
 
   line-slot : (n : Next) → packetAt (partOf p 0 (cur .end)) (cur .at) ≡ n → IsLine (slotAdvanced cur p .found)

@@ -134,7 +134,7 @@ taken-few h p d t k =
 
 lost-few : (h : Held) → cursorWaits (lostOf h .cursor) < 100000
 unfolding lostOf
-lost-few h = noted-few (cond (h .on) 40 0)
+lost-few h = noted-few (cond (h .on) (numberOf Lost) 0)
 
 -- what a command leaves of the run
 pub record Took-run (r : Run) (n : ℕ) (x : Run) : Type 0 where

@@ -12,7 +12,9 @@ use Rattle.tmcc.specs.declared.layout.Pointers.{Pointers}
 use Rattle.tlv.specs.declared.packet.Next.{Next}
 use Rattle.tlv.specs.declared.packet.Next.the-variants.{Packet as PacketTo, Tail as TailAt}
 use Rattle.tlv.specs.declared.held.Continuation.{Continuation}
-use Rattle.tlv.specs.declared.held.Continuation.the-variants.{TooLong, Misfit, Ends, GoesOn}
+use Rattle.tlv.specs.declared.held.Continuation.the-variants.{Dropped, Ends, GoesOn}
+use Rattle.tlv.specs.declared.note.SlotNote.the-variants.{Unsound}
+use Rattle.tlv.specs.Notes.{numberOf}
 use Rattle.tlv.specs.Slot.{none, sound}
 use Rattle.tlv.specs.Held.{continuationOf}
 use Rattle.tlv.specs.Packet.{packetAt}
@@ -223,8 +225,7 @@ from-fit note packet top l = go (eqb top none)
 module _ (P : Cursor → Type 0) (l : ℕ) (a : (n : ℕ) → P (noted n)) (b : (n k top : ℕ) → P (cursorFrom n k top l)) where
   resumed-cursor : (k : Continuation) (n top : ℕ) → P (resumedAs k n top l .cursor)
   unfolding resumedAs
-  resumed-cursor TooLong n top = b 43 0 top
-  resumed-cursor Misfit n top = b 42 0 top
+  resumed-cursor (Dropped x) n top = b (numberOf x) 0 top
   resumed-cursor (Ends e) n top = b 0 (packetEnd n e) top
   resumed-cursor GoesOn n top = a 0
 
@@ -232,7 +233,7 @@ module _ (P : Cursor → Type 0) (l : ℕ) (a : (n : ℕ) → P (noted n)) (b : 
   taken-cursor h p d t z = go (sound d (t .0) (t .1)) (h .on) refl refl
     where
       go : (s on : Bool) → sound d (t .0) (t .1) ≡ s → h .on ≡ on → P (takenOf h p d t .0 .cursor)
-      go false on s o = rw (taken-unsound h p d t s) (a 41)
+      go false on s o = rw (taken-unsound h p d t s) (a (numberOf Unsound))
       go true false s o = rw (taken-searching h p d t s o, z) (b 0 0 (t .0))
       go true true s o =
           let k = continuationOf (heldBytes h p) d (t .0) (t .1) in
