@@ -10,6 +10,8 @@ use lib.Dec.{eqb}
 use Rattle.wire.specs.Memory.{partOf}
 use Rattle.tlv.specs.declared.packet.Next.{Next}
 use Rattle.tlv.specs.declared.packet.Next.the-variants.{Packet as PacketTo, Tail as TailAt}
+use Rattle.tlv.specs.declared.note.SlotNote.the-variants.{TooLong}
+use Rattle.tlv.specs.Notes.{numberOf}
 use Rattle.tlv.specs.Packet.{packetAt, tooLong}
 use Rattle.reassembly.specs.Channel.{unheard}
 use Rattle.intake.specs.declared.held.Cursor.{Cursor}

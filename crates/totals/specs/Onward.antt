@@ -15,6 +15,8 @@ use Rattle.reassembly.specs.Channel.{unheard}
 use Rattle.intake.specs.declared.held.Held.{Held}
 use Rattle.intake.specs.declared.held.Cursor.{Cursor}
 use Rattle.intake.specs.Slot.{noted, slotArea, cursorFrom, takenOf, lostOf}
+use Rattle.tlv.specs.declared.note.SlotNote.the-variants.{Lost}
+use Rattle.tlv.specs.Notes.{numberOf}
 use Rattle.tlv.specs.Slot.{none as top-none}
 use Rattle.tmcc.specs.declared.layout.Pointers.{Pointers}
 use Rattle.delivery.specs.declared.cursor.Found.{Found}
