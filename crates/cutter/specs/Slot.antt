@@ -105,19 +105,20 @@ accepted run l s n e =
     let t = if-zero (eqb n l) _ _ (r .1) (λ z. omega arith) in
     record { packets = p .0; listed = q .0; within = ltb-false _ _ (r .0); fits = eqb-true _ _ (t .0) }
 
--- a refusal is one of four numbers
-pub refusal-bounds : (run : List ℕ) (l s n : ℕ) → (refusalOf run l s n ≡ 0 → ⊥)
-    → (75 ≤ refusalOf run l s n) × (refusalOf run l s n ≤ 78)
+-- a refusal is 75 to 78
+either : (P : ℕ → Type 0) (t : Bool) {a b : ℕ} → P a → P b → P (cond t a b)
+either P true h k = h
+either P false h k = k
+
+pub refusal-bounds : (run : List ℕ) (l s n : ℕ) → let r = refusalOf run l s n in (r ≡ 0 → ⊥) → (75 ≤ r) × (r ≤ 78)
 unfolding refusalOf
-refusal-bounds run l s n = go (whole run) (unlisted l) (ltb (length run) ((s + 1) * l)) (eqb n l)
-  where
-    go : (a b c d : Bool) → let r : ℕ = cond a (cond b 76 (cond c 77 (cond d 0 78))) 75 in
-        (r ≡ 0 → ⊥) → (75 ≤ r) × (r ≤ 78)
-    go false b c d z = (omega arith, omega arith)
-    go true true c d z = (omega arith, omega arith)
-    go true false true d z = (omega arith, omega arith)
-    go true false false true z = absurd (z refl)
-    go true false false false z = (omega arith, omega arith)
+refusal-bounds run l s n =
+    let P : ℕ → Type 0 = λ r. (r ≡ 0 → ⊥) → (75 ≤ r) × (r ≤ 78) in
+    either P (whole run)
+    (either P (unlisted l) (λ z. (omega arith, omega arith))
+    (either P (ltb (length run) ((s + 1) * l)) (λ z. (omega arith, omega arith))
+    (either P (eqb n l) (λ z. absurd (z refl)) (λ z. (omega arith, omega arith)))))
+    (λ z. (omega arith, omega arith))
 
 -- the slot lies in the run
 pub slot-within : (run : List ℕ) (l s n : ℕ) → Accepted run l s n → s * l + l ≤ length run

@@ -1,5 +1,5 @@
--- What is claimed of the calls: a capture's write its lines, one after the other; a refused one of the packer or the cutter leaves all
--- that it was lent.
+-- What is claimed of the functions of C linkage: a capture's calls, one after the other, write its lines; a refused call of the
+-- packer or the cutter leaves all that it was lent.
 use Prim.Native.Nat.{ℕ, _≤_}
 use mathlib.Core.Path.{_≡_}
 use mathlib.Core.Bool.{true, false, cond}

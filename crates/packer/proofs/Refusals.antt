@@ -118,23 +118,21 @@ not-refused m kind n len room cid e =
       cids = ltb-false _ _ (g .0);
     }
 
--- a refusal is one of five numbers
-refusal-bounds : (m kind n len room cid : ℕ) → (refusalOf m kind n len room cid ≡ 0 → ⊥)
-    → (70 ≤ refusalOf m kind n len room cid) × (refusalOf m kind n len room cid ≤ 74)
+-- a refusal is 70 to 74
+either : (P : ℕ → Type 0) (t : Bool) {a b : ℕ} → P a → P b → P (cond t a b)
+either P true h k = h
+either P false h k = k
+
+refusal-bounds : (m kind n len room cid : ℕ) → let r = refusalOf m kind n len room cid in (r ≡ 0 → ⊥) → (70 ≤ r) × (r ≤ 74)
 unfolding refusalOf
 refusal-bounds m kind n len room cid =
-    go (eqb m 0) (ltb 1400 m) (ltb 4 kind) (ltb maxPieces n) (ltb room len) (ltb 4095 cid)
-  where
-    go : (a b c d e f : Bool)
-        → let r : ℕ = cond a 70 (cond b 70 (cond c 71 (cond d 72 (cond e 73 (cond f 74 0))))) in
-        (r ≡ 0 → ⊥) → (70 ≤ r) × (r ≤ 74)
-    go true b c d e f z = (omega arith, omega arith)
-    go false true c d e f z = (omega arith, omega arith)
-    go false false true d e f z = (omega arith, omega arith)
-    go false false false true e f z = (omega arith, omega arith)
-    go false false false false true f z = (omega arith, omega arith)
-    go false false false false false true z = (omega arith, omega arith)
-    go false false false false false false z = absurd (z refl)
+    let P : ℕ → Type 0 = λ r. (r ≡ 0 → ⊥) → (70 ≤ r) × (r ≤ 74) in
+    either P (eqb m 0) (λ z. (omega arith, omega arith))
+    (either P (ltb 1400 m) (λ z. (omega arith, omega arith))
+    (either P (ltb 4 kind) (λ z. (omega arith, omega arith))
+    (either P (ltb maxPieces n) (λ z. (omega arith, omega arith))
+    (either P (ltb room len) (λ z. (omega arith, omega arith))
+    (either P (ltb 4095 cid) (λ z. (omega arith, omega arith)) (λ z. absurd (z refl)))))))
 
 module _ (u : Unit) (cid sn m : ℕ) (s out : List ℕ) where
   abbrev refusal : ℕ
