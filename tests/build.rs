@@ -1,4 +1,5 @@
-//! Links the proved libraries into the tests: LINKED_LIB and TOTALS_LIB name their archives.
+//! Links the proved libraries into the tests: LINKED_LIB and TOTALS_LIB name their archives. A
+//! variable that is not set makes a test fail.
 
 use std::env;
 

@@ -1,9 +1,9 @@
-//! The differential harness: against the program in OTHER_CAPTURE, or else against our own.
+//! The differential harness, against the program in OTHER_CAPTURE.
 
 use std::process::{Command, Output};
 
 const DIFFERENTIAL: &str = env!("CARGO_BIN_EXE_differential");
-const OURS: &str = env!("CARGO_BIN_EXE_second_capture");
+const COUNT: &str = "4000";
 
 fn differential(program: &str, count: &str) -> Output {
     let mut command = Command::new(DIFFERENTIAL);
@@ -13,16 +13,15 @@ fn differential(program: &str, count: &str) -> Output {
 
 #[test]
 fn the_other_program_gives_the_same_lines() {
-    let (program, count) = match std::env::var("OTHER_CAPTURE") {
-        Ok(program) => (program, "4000"),
-        Err(_) => (OURS.to_string(), "220"),
+    let Ok(program) = std::env::var("OTHER_CAPTURE") else {
+        panic!("OTHER_CAPTURE is not set: it is the path of target/bin/tlv_capture (see .ci/run)");
     };
-    let output = differential(&program, count);
-    let text = String::from_utf8_lossy(&output.stdout);
+    let output = differential(&program, COUNT);
+    let text = String::from_utf8_lossy(&[output.stdout, output.stderr].concat()).into_owned();
     println!("{text}");
     assert!(output.status.success(), "{text}");
     assert!(
-        text.contains(&format!("{count} captures compared")),
+        text.contains(&format!("{COUNT} captures compared")),
         "{text}"
     );
 }

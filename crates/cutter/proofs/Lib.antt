@@ -4,6 +4,7 @@ pub mod Packets
 pub mod Table
 pub mod Splits
 pub mod Reaches
+pub mod Refusals
 pub mod Sound
 pub mod Steps
 pub mod Runs

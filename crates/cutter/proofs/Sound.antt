@@ -9,14 +9,14 @@ use native.Mathlib.Decide.{decLe}
 use lib.ListN.{length, take, drop, length-drop}
 use lib.Seq.{take-add, drop-at, drop-drop, length-take-le}
 use lib.Dec.{eqb, leb}
-use borrow.Author.Tests.{le-leb, lt-leb, lt-ltb, eq-eqb, ne-eqb, eqb-true}
+use borrow.Author.Tests.{le-leb, lt-leb, lt-ltb, eq-eqb, ne-eqb}
 use Rattle.wire.specs.Lists.{sift}
+use Rattle.tmcc.specs.declared.layout.Pointers.{Pointers}
 use Rattle.tlv.specs.Packet.{total, complete, cut}
 use Rattle.tlv.specs.Cuts.{row, cut-more, cut-end, cut-sized}
 use Rattle.tlv.specs.Slot.{none, endFrom, lastPointer, sound, sound-without-top}
-use Rattle.cutter.specs.declared.slot.CutSlot.{CutSlot}
 use Rattle.cutter.specs.Pointers.{starts, ends, inSlot, endsIn, firstOffset, topOf, lastOf}
-use Rattle.cutter.specs.Slot.{refusalOf, slotAt, pointed, refused, slotOf, accepted, slot-within, slot-cut}
+use Rattle.cutter.specs.Slot.{slotAt, accepted, slot-within, slot-cut}
 use Rattle.cutter.specs.Claims.{CutSound}
 use Rattle.cutter.proofs.Places.{in-past, in-there, lastFrom, starts-past, ends-past}
 use Rattle.cutter.proofs.Places.{starts-behind, last-append, last-within, last-done, pointer-end}
@@ -24,6 +24,7 @@ use Rattle.cutter.proofs.Packets.{whole-good, whole-complete}
 use Rattle.cutter.proofs.Splits.{Split, split, joined-length, first-length, joined-packets, begun, cut-split, begun-length}
 use Rattle.cutter.proofs.Reaches.{whole-row, Reach, reach}
 use Rattle.cutter.proofs.Table.{listed-bounds}
+use Rattle.cutter.proofs.Refusals.{cut-accepted}
 
 -- packets of which the first ends past the slot
 over-past : (from l at : ℕ) (b : List ℕ) → from + l < at + total b → sift (endsIn from l) (ends at (cut b .packets)) ≡ []
@@ -178,29 +179,18 @@ module _ (run : List ℕ) (from l : ℕ) (h : from + l ≤ length run) (sp : Spl
       go (yes t) = sound-past p t
       go (no t) = sound-in (omega arith) n
 
--- what a call that is not refused gives
-given-zero : (run : List ℕ) (l s : ℕ) (output : List ℕ) → slotOf run l s output .0 .refusal ≡ 0
-    → refusalOf run l s (length output) ≡ 0
-unfolding slotOf
-given-zero run l s output e = go (eqb (refusalOf run l s (length output)) 0) refl e
-  where
-    r : ℕ
-    r = refusalOf run l s (length output)
-
-    go : (t : Bool) → eqb r 0 ≡ t
-        → cond {A = CutSlot × List ℕ} t (pointed (slotAt run l s), slotAt run l s .bytes) (refused r, output) .0 .refusal ≡ 0
-        → r ≡ 0
-    go true t e = eqb-true _ _ t
-    go false t e = e
-
 pub cut-sound : CutSound
 unfolding slotAt
-cut-sound run l s output e =
-    let z = given-zero run l s output e in
+cut-sound run l s output p after e =
+    let z = cut-accepted run l s output p after e in
     let a = accepted run l s (length output) z in
     let w = whole-good run (a .packets) in
     let h = slot-within run l s (length output) a in
     let k = listed-bounds l (a .listed) in
     let sp = split run (record { ended = w .1; good = w .0 }) (s * l) (omega arith) in
-    rw (slot-cut run l s output z)
+    let g = sym (slot-cut run l s output z) ∙ e in
+    let o : Pointers = record { 0 = slotAt run l s .top; 1 = slotAt run l s .last } in
+    let q : o ≡ p = cc (ap (λ x. x .0) g) in
+    let b : slotAt run l s .bytes ≡ after = ap (λ x. x .1) g in
+    rw (← b, ← q)
     (slot-sound run (s * l) l h sp (reach run (s * l) l sp h (omega arith)) (omega arith) (omega arith))

@@ -1,19 +1,27 @@
--- What is claimed of cut slots: each is sound, and the slots of a run, one after another, give its packets and no note.
+-- What is claimed of the cutter: a refused call leaves the output; a slot that is cut is sound; and the slots of a run, one after
+-- another, give its packets and no note.
 use Prim.Native.Nat.{ℕ, zero, suc, _+_, _*_, _≤_, _<_}
 use mathlib.Core.Path.{_≡_}
 use mathlib.Core.Bool.{true, false}
 use mathlib.Core.List.{List, [], _∷_, map}
 use lib.ListN.{length}
+use Rattle.tmcc.specs.declared.layout.Pointers.{Pointers}
 use Rattle.tlv.specs.Packet.{cut, maxPacket}
 use Rattle.tlv.specs.Slot.{sound}
 use Rattle.tlv.specs.Run.{Slot, Labelled, searching, packets, Clean, intact}
 use Rattle.tlv.specs.Run.{run as events}
+use Rattle.cutter.specs.declared.slot.CutSlot.the-variants.{Cut, Refused}
 use Rattle.cutter.specs.Slot.{whole, unlisted, slotAt, pointed, slotOf}
+
+-- demand 1: a refused call returns a number of document 01's, 75 to 78, and the output is as it was
+abbrev pub CutRefused : Type 0
+CutRefused = (run : List ℕ) (l s : ℕ) (output : List ℕ) (n : ℕ) (after : List ℕ) → slotOf run l s output ≡ (Refused n, after)
+    → (75 ≤ n) × (n ≤ 78) × (after ≡ output)
 
 -- what a call that is not refused gives is a sound slot
 abbrev pub CutSound : Type 0
-CutSound = (run : List ℕ) (l s : ℕ) (output : List ℕ) → slotOf run l s output .0 .refusal ≡ 0
-    → sound (slotOf run l s output .1) (slotOf run l s output .0 .top) (slotOf run l s output .0 .last) ≡ true
+CutSound = (run : List ℕ) (l s : ℕ) (output : List ℕ) (p : Pointers) (after : List ℕ) → slotOf run l s output ≡ (Cut p, after)
+    → sound after (p .0) (p .1) ≡ true
 
 -- a run that fills n slots: "run a multiple of L", L in the table
 pub record Fills (run : List ℕ) (l n : ℕ) : Type 0 where

@@ -10,6 +10,7 @@ use Rattle.tmcc.specs.Mode.{dataBytes}
 use Rattle.tlv.specs.Packet.{goodFirst, total, complete, marked, cutBy, cut}
 use Rattle.tlv.specs.Slot.{none}
 use Rattle.cutter.specs.declared.slot.CutSlot.{CutSlot}
+use Rattle.cutter.specs.declared.slot.CutSlot.the-variants.{Cut, Refused}
 use Rattle.cutter.specs.Pointers.{starts, ends, inSlot, topOf, lastOf}
 use Rattle.cutter.specs.Slot.{whole, unlisted, refusalOf, slotAt, slotOf}
 use Rattle.cutter.specs.Claims.{Fills, AllShort}
@@ -38,7 +39,7 @@ abbrev cutOf : List ℕ → ℕ → CutSlot
 cutOf run s = slotOf run 1870 s (output 1870) .0
 
 abbrev pointers : ℕ → ℕ → CutSlot
-pointers top last = record { refusal = 0; top = top; last = last }
+pointers top last = Cut (record { 0 = top; 1 = last })
 
 abbrev pub Examples : Type 0
 Examples =
@@ -61,35 +62,33 @@ examples =
     unfold starts ends inSlot topOf lastOf whole unlisted refusalOf slotAt slotOf in
     (refl, refl, refl, refl, refl, refl, refl, refl)
 
--- the call's number, whose output has n bytes
-abbrev numberOf : List ℕ → ℕ → ℕ → ℕ → ℕ
-numberOf run l s n = slotOf run l s (output n) .0 .refusal
+-- a refused call whose output has k bytes: the number, and the output as it was
+abbrev Refuses : ℕ → List ℕ → ℕ → ℕ → ℕ → Type 0
+Refuses n run l s k = slotOf run l s (output k) ≡ (Refused n, output k)
 
 abbrev pub Refusals : Type 0
 Refusals =
     -- 75: a packet that is not whole, a first byte that is not good
-    (numberOf (0x7f ∷ 3 ∷ 0 ∷ []) 1871 0 0 ≡ 75)
-    × (numberOf (0x3f ∷ 3 ∷ 0 ∷ 0 ∷ []) 1871 0 0 ≡ 75)
+    Refuses 75 (0x7f ∷ 3 ∷ 0 ∷ []) 1871 0 0
+    × Refuses 75 (0x3f ∷ 3 ∷ 0 ∷ 0 ∷ []) 1871 0 0
     -- 76: between two entries of the table, and 0
-    × (numberOf even 1871 2 0 ≡ 76)
-    × (numberOf even 0 2 0 ≡ 76)
-    × (numberOf even 5050 2 0 ≡ 76)
+    × Refuses 76 even 1871 2 0
+    × Refuses 76 even 0 2 0
+    × Refuses 76 even 5050 2 0
     -- 77: the slot past the last, one whose number is as large as a usize, a slot that the run fills in part, an empty run
-    × (numberOf even 1870 2 0 ≡ 77)
-    × (numberOf even 1870 18446744073709551615 0 ≡ 77)
-    × (numberOf even 2244 1 0 ≡ 77)
-    × (numberOf [] 1870 0 0 ≡ 77)
+    × Refuses 77 even 1870 2 0
+    × Refuses 77 even 1870 18446744073709551615 0
+    × Refuses 77 even 2244 1 0
+    × Refuses 77 [] 1870 0 0
     -- 78: a byte less, a byte more
-    × (numberOf even 1870 1 1869 ≡ 78)
-    × (numberOf even 1870 1 1871 ≡ 78)
-    -- a refused call leaves the output
-    × (slotOf even 1870 2 (output 3) .1 ≡ output 3)
+    × Refuses 78 even 1870 1 1869
+    × Refuses 78 even 1870 1 1871
 
 pub refusals : Refusals
 refusals =
     unfold be allBelow dataBytes goodFirst total complete marked cutBy cut in
     unfold whole unlisted refusalOf slotOf in
-    (refl, refl, refl, refl, refl, refl, refl, refl, refl, refl, refl, refl)
+    (refl, refl, refl, refl, refl, refl, refl, refl, refl, refl, refl)
 
 -- a run that the claims speak of
 pub shared-fills : Fills shared 1870 2 × AllShort (cut shared .packets)

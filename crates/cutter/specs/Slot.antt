@@ -14,6 +14,7 @@ use Rattle.tmcc.specs.Mode.{dataBytes}
 use Rattle.tlv.specs.Packet.{cut}
 use Rattle.tlv.specs.Run.{Slot}
 use Rattle.cutter.specs.declared.slot.CutSlot.{CutSlot}
+use Rattle.cutter.specs.declared.slot.CutSlot.the-variants.{Cut, Refused}
 use Rattle.cutter.specs.Pointers.{topOf, lastOf}
 
 -- whole TLV packets, each starting 01
@@ -40,18 +41,20 @@ refusalOf run l s n =
 unfoldable pub slotAt : List ℕ → ℕ → ℕ → Slot
 slotAt run l s = record { top = topOf run (s * l) l; last = lastOf run (s * l) l; bytes = take l (drop (s * l) run) }
 
--- "Refused calls return the number only": both pointers are then 0
-abbrev pub refused : ℕ → CutSlot
-refused n = record { refusal = n; top = 0; last = 0 }
-
 abbrev pub pointed : Slot → CutSlot
-pointed x = record { refusal = 0; top = x .top; last = x .last }
+pointed x = Cut (record { 0 = x .top; 1 = x .last })
 
--- what the call answers, and what the output then is: the slot's bytes, or as it was
+-- what the call answers, and what the output then is: the slot's bytes, or as it was;
+-- "Refused calls return the number only"
 unfoldable pub slotOf : List ℕ → ℕ → ℕ → List ℕ → CutSlot × List ℕ
 slotOf run l s output =
     let r = refusalOf run l s (length output) in
-    cond (eqb r 0) (pointed (slotAt run l s), slotAt run l s .bytes) (refused r, output)
+    cond (eqb r 0) (pointed (slotAt run l s), slotAt run l s .bytes) (Refused r, output)
+
+-- document 01's number for each case; 0 for a slot that was cut
+abbrev pub numberOf : CutSlot → ℕ
+numberOf (Cut p) = 0
+numberOf (Refused n) = n
 
 -- by cases: the four refusals
 module _ (run : List ℕ) (l s n : ℕ) where
@@ -102,6 +105,21 @@ accepted run l s n e =
     let t = if-zero (eqb n l) _ _ (r .1) (λ z. omega arith) in
     record { packets = p .0; listed = q .0; within = ltb-false _ _ (r .0); fits = eqb-true _ _ (t .0) }
 
+-- a refusal is 75 to 78
+either : (P : ℕ → Type 0) (t : Bool) {a b : ℕ} → P a → P b → P (cond t a b)
+either P true h k = h
+either P false h k = k
+
+pub refusal-bounds : (run : List ℕ) (l s n : ℕ) → let r = refusalOf run l s n in (r ≡ 0 → ⊥) → (75 ≤ r) × (r ≤ 78)
+unfolding refusalOf
+refusal-bounds run l s n =
+    let P : ℕ → Type 0 = λ r. (r ≡ 0 → ⊥) → (75 ≤ r) × (r ≤ 78) in
+    either P (whole run)
+    (either P (unlisted l) (λ z. (omega arith, omega arith))
+    (either P (ltb (length run) ((s + 1) * l)) (λ z. (omega arith, omega arith))
+    (either P (eqb n l) (λ z. absurd (z refl)) (λ z. (omega arith, omega arith)))))
+    (λ z. (omega arith, omega arith))
+
 -- the slot lies in the run
 pub slot-within : (run : List ℕ) (l s n : ℕ) → Accepted run l s n → s * l + l ≤ length run
 slot-within run l s n a = rw (add-one, suc-mul) at (a .within)
@@ -109,7 +127,7 @@ slot-within run l s n a = rw (add-one, suc-mul) at (a .within)
 -- the call, refused and accepted
 module _ (run : List ℕ) (l s : ℕ) (output : List ℕ) where
   pub slot-refused : (refusalOf run l s (length output) ≡ 0 → ⊥)
-      → slotOf run l s output ≡ (refused (refusalOf run l s (length output)), output)
+      → slotOf run l s output ≡ (Refused (refusalOf run l s (length output)), output)
   unfolding slotOf
   slot-refused n = rw (ne-eqb _ _ n)
 

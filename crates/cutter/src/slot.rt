@@ -3,12 +3,13 @@ ghost use mathlib.Core.Path.{_≡_};
 ghost use lib.ListN.{length};
 ghost use Rattle.cutter.specs.Slot.{whole, unlisted, refusalOf, slotOf};
 use tlv::packet::Walked;
+use tmcc::layout::Pointers;
 
-// `refusal` is 0 for a slot that was cut, and else 75 to 78 with both pointers 0.
-pub struct CutSlot {
-    pub refusal: u8,
-    pub top: u16,
-    pub last: u16,
+pub enum CutSlot {
+    // The output is the slot's bytes; its top and last pointer.
+    Cut(Pointers),
+    // 75 to 78.
+    Refused(u8),
 }
 
 // Whether a run is whole TLV packets with good first bytes.
@@ -62,18 +63,10 @@ pub fn cut_slot(run: &[u8], l: usize, s: usize, output: &mut [u8]) -> CutSlot
 {
     let refusal = refusal(run, l, s, output.len());
     if refusal != 0 {
-        return CutSlot {
-            refusal,
-            top: 0,
-            last: 0,
-        };
+        return CutSlot::Refused(refusal);
     }
     let from = s * l;
     let p = crate::pointers::find(run, from, l);
     wire::memory::copy_at(output, 0, &run[from..from + l]);
-    CutSlot {
-        refusal: 0,
-        top: p.0,
-        last: p.1,
-    }
+    CutSlot::Cut(p)
 }

@@ -1,2 +1,3 @@
 -- The theorems.
 pub mod Lines
+pub mod Refusals

@@ -1,10 +1,16 @@
--- The packer's and the cutter's parameters and answers, from plain numbers.
+-- The packer's and the cutter's calls of C linkage, over plain numbers.
 use Prim.Native.Nat.{ℕ}
-use Rattle.mmtp.specs.declared.header.Psn.{Psn}
+use mathlib.Core.Path.{_≡_}
+use mathlib.Core.List.{List}
+use Rattle.tmcc.specs.declared.layout.Pointers.{Pointers}
 use Rattle.mmtp.specs.declared.unit.Fields.{Fields}
 use Rattle.reassembly.specs.declared.unit.Unit.{Unit}
 use Rattle.packer.specs.declared.pack.Packed.{Packed}
+use Rattle.packer.specs.declared.pack.Packed.the-variants.{Written, Refused as NotPacked}
+use Rattle.packer.specs.Packer.{packOf, numberOf as packNumber}
 use Rattle.cutter.specs.declared.slot.CutSlot.{CutSlot}
+use Rattle.cutter.specs.declared.slot.CutSlot.the-variants.{Cut, Refused as NotCut}
+use Rattle.cutter.specs.Slot.{slotOf, numberOf as cutNumber}
 
 -- movie fragment, sample, offset, priority, dependency, item
 abbrev pub fieldsOf : ℕ → ℕ → ℕ → ℕ → ℕ → ℕ → Fields
@@ -29,8 +35,45 @@ unitOf id kind psn mpu fragment sample offset priority dependency item =
       fields = fieldsOf fragment sample offset priority dependency item;
     }
 
-abbrev pub packedAs : ℕ → ℕ → Packed
-packedAs refusal len = record { refusal = refusal; len = len }
+-- "Refused calls return the number only": numbers that are lent for the answer are then as they were
+abbrev pub lengthLeft : Packed → ℕ → ℕ
+lengthLeft (Written n) len = n
+lengthLeft (NotPacked n) len = len
 
-abbrev pub cutAs : ℕ → ℕ → ℕ → CutSlot
-cutAs refusal top last = record { refusal = refusal; top = top; last = last }
+abbrev pub pointersLeft : CutSlot → Pointers → Pointers
+pointersLeft (Cut p) lent = p
+pointersLeft (NotCut n) lent = lent
+
+-- the packer's call: document 01's number, or 0; `len`; the output
+unfoldable pub packCall : Unit → ℕ → ℕ → ℕ → List ℕ → List ℕ → ℕ → ℕ × ℕ × List ℕ
+packCall u cid sn m s out len =
+    let r = packOf u cid sn m s out in
+    (packNumber (r .0), lengthLeft (r .0) len, r .1)
+
+-- the cutter's call: document 01's number, or 0; `top` and `last`; the output
+unfoldable pub cutCall : List ℕ → ℕ → ℕ → List ℕ → ℕ → ℕ → ℕ × ℕ × ℕ × List ℕ
+cutCall run l s output top last =
+    let r = slotOf run l s output in
+    let p = pointersLeft (r .0) (record { 0 = top; 1 = last }) in
+    (cutNumber (r .0), p .0, p .1, r .1)
+
+-- by what the packer and the cutter answer
+module _ (u : Unit) (cid sn m : ℕ) (s out : List ℕ) (len n : ℕ) (after : List ℕ) where
+  pub pack-taken : (Written n, after) ≡ packOf u cid sn m s out → packCall u cid sn m s out len ≡ (0, n, after)
+  unfolding packCall
+  pack-taken e = rw (← e)
+
+  pub pack-left : (NotPacked n, after) ≡ packOf u cid sn m s out → packCall u cid sn m s out len ≡ (n, len, after)
+  unfolding packCall
+  pack-left e = rw (← e)
+
+module _ (run : List ℕ) (l s : ℕ) (output : List ℕ) (top last : ℕ) (after : List ℕ) where
+  pub cut-taken : (p : Pointers) → (Cut p, after) ≡ slotOf run l s output
+      → cutCall run l s output top last ≡ (0, p .0, p .1, after)
+  unfolding cutCall
+  cut-taken p e = rw (← e)
+
+  pub cut-left : (n : ℕ) → (NotCut n, after) ≡ slotOf run l s output
+      → cutCall run l s output top last ≡ (n, top, last, after)
+  unfolding cutCall
+  cut-left n e = rw (← e)

@@ -1,5 +1,6 @@
--- What is claimed of the calls: one after the other they write the capture's lines.
-use Prim.Native.Nat.{ℕ}
+-- What is claimed of the functions of C linkage: a capture's calls, one after the other, write its lines; a refused call of the
+-- packer or the cutter leaves all that it was lent.
+use Prim.Native.Nat.{ℕ, _≤_}
 use mathlib.Core.Path.{_≡_}
 use mathlib.Core.Bool.{true, false, cond}
 use mathlib.Core.List.{List, _++_}
@@ -9,6 +10,12 @@ use Rattle.capture.specs.declared.session.Session.{Session}
 use Rattle.capture.specs.Command.{sizeOf}
 use Rattle.capture.specs.Session.{busy}
 use Rattle.capture.specs.Capture.{doneOf, eventLine, lastLine, textOf}
+use Rattle.reassembly.specs.declared.unit.Unit.{Unit}
+use Rattle.packer.specs.declared.pack.Packed.the-variants.{Written}
+use Rattle.packer.specs.Packer.{packOf}
+use Rattle.cutter.specs.declared.slot.CutSlot.the-variants.{Cut}
+use Rattle.cutter.specs.Slot.{slotOf}
+use Rattle.linked.specs.Answers.{packCall, cutCall}
 use Rattle.linked.specs.Calls.{callComes, stepOf}
 
 -- the line that a call writes, if it writes one
@@ -24,3 +31,24 @@ CallClaim = (s : Session) (p c b : List ℕ) → callComes s b ≡ true → let 
 -- where no call comes, the last line is left
 abbrev pub EndClaim : Type 0
 EndClaim = (s : Session) (p c b : List ℕ) → callComes s b ≡ false → textOf s p c b ≡ lastLine (s .tally)
+
+-- demand 1: a refused call returns a number of document 01's, and each number and byte that it was lent is as it was
+abbrev pub PackCallRefused : Type 0
+PackCallRefused = (u : Unit) (cid sn m : ℕ) (s out : List ℕ) (len : ℕ) (n len' : ℕ) (out' : List ℕ)
+    → packCall u cid sn m s out len ≡ (n, len', out') → (n ≡ 0 → ⊥)
+    → (70 ≤ n) × (n ≤ 74) × (len' ≡ len) × (out' ≡ out)
+
+abbrev pub CutCallRefused : Type 0
+CutCallRefused = (run : List ℕ) (l s : ℕ) (output : List ℕ) (top last : ℕ) (n top' last' : ℕ) (output' : List ℕ)
+    → cutCall run l s output top last ≡ (n, top', last', output') → (n ≡ 0 → ⊥)
+    → (75 ≤ n) × (n ≤ 78) × (top' ≡ top) × (last' ≡ last) × (output' ≡ output)
+
+-- a call that returns 0 was not refused
+abbrev pub PackCallTaken : Type 0
+PackCallTaken = (u : Unit) (cid sn m : ℕ) (s out : List ℕ) (len : ℕ) (len' : ℕ) (out' : List ℕ)
+    → packCall u cid sn m s out len ≡ (0, len', out') → packOf u cid sn m s out ≡ (Written len', out')
+
+abbrev pub CutCallTaken : Type 0
+CutCallTaken = (run : List ℕ) (l s : ℕ) (output : List ℕ) (top last : ℕ) (top' last' : ℕ) (output' : List ℕ)
+    → cutCall run l s output top last ≡ (0, top', last', output')
+    → slotOf run l s output ≡ (Cut (record { 0 = top'; 1 = last' }), output')

@@ -1,10 +1,11 @@
 // The slot cutter's call.
 ghost use mathlib.Core.Path.{_≡_};
-ghost use Rattle.cutter.specs.Slot.{slotOf};
-ghost use Rattle.linked.specs.Answers.{cutAs};
+ghost use Rattle.linked.specs.Answers.{cutCall};
+use cutter::slot::CutSlot;
 use cutter::slot::cut_slot;
 
-// Copies slot `s` of `l` bytes of a run to `output`; answers 75 to 78, or 0, and the slot's pointers in `top` and `last`.
+// Copies slot `s` of `l` bytes of a run to `output`, and its pointers to `top` and `last`; answers 0. Refused, it answers 75 to 78
+// and writes nothing.
 #[no_mangle]
 pub extern "C" fn ixohuemil_cut(
     run: &[u8],
@@ -14,11 +15,16 @@ pub extern "C" fn ixohuemil_cut(
     top: &mut u16,
     last: &mut u16,
 ) -> u8
-    ensures { λ r. ⌜ (cutAs r (now (top .exit)) (now (last .exit)), now (output .exit))
-        ≡ slotOf (now (run .entry)) l s (now (output .entry)) ⌝ }
+    ensures { λ r. ⌜ (r, now (top .exit), now (last .exit), now (output .exit))
+        ≡ cutCall (now (run .entry)) l s (now (output .entry)) (now (top .entry)) (now (last .entry)) ⌝ }
 {
     let slot = cut_slot(run, l, s, output);
-    *top = slot.top;
-    *last = slot.last;
-    slot.refusal
+    match slot {
+        CutSlot::Refused(number) => number,
+        CutSlot::Cut(pointers) => {
+            *top = pointers.0;
+            *last = pointers.1;
+            0
+        }
+    }
 }

@@ -1,9 +1,9 @@
 // The packer's call.
 ghost use mathlib.Core.Path.{_≡_};
-ghost use Rattle.packer.specs.Packer.{packOf};
-ghost use Rattle.linked.specs.Answers.{fieldsOf, unitOf, packedAs};
+ghost use Rattle.linked.specs.Answers.{fieldsOf, unitOf, packCall};
 use mmtp::header::Psn;
 use mmtp::unit::Fields;
+use packer::pack::Packed;
 use packer::pack::pack;
 use reassembly::unit::Unit;
 
@@ -28,8 +28,8 @@ fn fields_of(
     }
 }
 
-// Packs a unit of these bytes in pieces of at most `m`, the unit's psn in its first packet; answers 70 to 74, or 0 with the bytes
-// written in `len`.
+// Packs a unit of these bytes in pieces of at most `m`, the unit's psn in its first packet; answers 0, with the bytes written in
+// `len`. Refused, it answers 70 to 74 and writes nothing.
 #[no_mangle]
 pub extern "C" fn ixohuemil_pack(
     packet_id: u16,
@@ -49,9 +49,9 @@ pub extern "C" fn ixohuemil_pack(
     output: &mut [u8],
     len: &mut u64,
 ) -> u8
-    ensures { λ r. ⌜ (packedAs r (now (len .exit)), now (output .exit))
-        ≡ packOf (unitOf «packet_id» kind psn mpu «movie_fragment» sample offset priority dependency item) cid sn m
-        (now (bytes .entry)) (now (output .entry)) ⌝ }
+    ensures { λ r. ⌜ (r, now (len .exit), now (output .exit))
+        ≡ packCall (unitOf «packet_id» kind psn mpu «movie_fragment» sample offset priority dependency item) cid sn m
+        (now (bytes .entry)) (now (output .entry)) (now (len .entry)) ⌝ }
 {
     let psn = Psn(psn);
     let fields = fields_of(movie_fragment, sample, offset, priority, dependency, item);
@@ -63,6 +63,11 @@ pub extern "C" fn ixohuemil_pack(
         fields,
     };
     let packed = pack(unit, cid, sn, m, bytes, output);
-    *len = packed.len as u64;
-    packed.refusal
+    match packed {
+        Packed::Refused(number) => number,
+        Packed::Written(written) => {
+            *len = written as u64;
+            0
+        }
+    }
 }

@@ -7,10 +7,11 @@ use Rattle.wire.specs.Field.{bytesOf}
 use Rattle.wire.specs.Memory.{pasted}
 use Rattle.mmtp.specs.declared.unit.Fields.{Fields}
 use Rattle.reassembly.specs.declared.unit.Unit.{Unit}
+use Rattle.packer.specs.declared.pack.Packed.the-variants.{Written, Refused}
 use Rattle.packer.specs.Pieces.{piecesBy, pieces, indicatorAt, counterAt, withPsn, pieceAt}
 use Rattle.packer.specs.Packet.{outerHead, payloadType, mmtpHead, indicatorBits, fragmentBits, mpuHead}
 use Rattle.packer.specs.Packet.{signallingHead, payloadHead, timedFields, fieldsWritten, dataUnit, mmtpOf, packetOf}
-use Rattle.packer.specs.Packer.{packetAt, packetsFrom, packets, joined, run, refusalOf, packed, refusedWith, packOf}
+use Rattle.packer.specs.Packer.{packetAt, packetsFrom, packets, joined, run, refusalOf, packed, packOf}
 
 abbrev fields : Fields
 fields =
@@ -64,7 +65,7 @@ Examples =
     -- "a 23-byte packet (id 0, signalling, psn 7, 2 bytes)", and the output behind it as it was
     (packOf message 5 0 1400 (0xAA ∷ 0xBB ∷ []) (replicate 25 0xEE)
     ≡ (
-      record { refusal = 0; len = 23 },
+      Written 23,
       0x7F ∷ 3 ∷ 0 ∷ 19 ∷ 0 ∷ 0x50 ∷ 0x61
           ∷ 0 ∷ 2 ∷ 0 ∷ 0 ∷ 0 ∷ 0 ∷ 0 ∷ 0 ∷ 0 ∷ 0 ∷ 0 ∷ 7 ∷ 0 ∷ 0 ∷ 0xAA ∷ 0xBB ∷ 0xEE ∷ 0xEE ∷ [],
     ))
@@ -92,7 +93,7 @@ examples = (refl, refl, refl, refl, refl, refl, refl)
 
 -- a refused call, and the output as it was
 abbrev Refuses : ℕ → Unit → ℕ → ℕ → List ℕ → List ℕ → Type 0
-Refuses n u cid m s out = packOf u cid 0 m s out ≡ (refusedWith n, out)
+Refuses n u cid m s out = packOf u cid 0 m s out ≡ (Refused n, out)
 
 abbrev pub Refusals : Type 0
 Refusals =
@@ -102,7 +103,7 @@ Refusals =
     × Refuses 72 (unit 4 0) 4096 1 (replicate 257 0) [] × Refuses 73 (unit 4 0) 4096 1400 (1 ∷ 2 ∷ []) (replicate 22 0xEE)
     × Refuses 74 (unit 4 0) 4096 1400 (1 ∷ 2 ∷ []) (replicate 23 0xEE)
     -- 256 pieces are packed
-    × (packOf (unit 4 0) 4095 0 1 (replicate 256 0) (replicate 5632 0xEE) .0 ≡ record { refusal = 0; len = 5632 })
+    × (packOf (unit 4 0) 4095 0 1 (replicate 256 0) (replicate 5632 0xEE) .0 ≡ Written 5632)
 
 pub refusals : Refusals
 unfolding bytesOf pasted piecesBy pieces indicatorAt counterAt withPsn pieceAt outerHead payloadType mmtpHead indicatorBits

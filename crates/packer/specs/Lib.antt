@@ -3,6 +3,7 @@ pub mod Pieces
 pub mod Packet
 pub mod Packer
 pub mod Writing
+pub mod Refusals
 pub mod Examples
 pub mod Reads
 pub mod Rejoins

@@ -7,6 +7,7 @@ use lib.Dec.{eqb, ltb}
 use Rattle.wire.specs.Memory.{pasted}
 use Rattle.reassembly.specs.declared.unit.Unit.{Unit}
 use Rattle.packer.specs.declared.pack.Packed.{Packed}
+use Rattle.packer.specs.declared.pack.Packed.the-variants.{Written, Refused}
 use Rattle.packer.specs.Pieces.{pieces, maxPieces, pieceAt}
 use Rattle.packer.specs.Packet.{packetOf}
 
@@ -41,13 +42,14 @@ refusalOf m kind n len room cid =
 unfoldable pub packed : List ℕ → List ℕ → List ℕ
 packed r out = pasted out 0 r (length r)
 
--- "Refused calls return the number only"
-abbrev pub refusedWith : ℕ → Packed
-refusedWith refusal = record { refusal = refusal; len = 0 }
-
--- the answer, which "returns the length", and the output
+-- the answer, which "returns the length", and the output; "Refused calls return the number only"
 unfoldable pub packOf : Unit → ℕ → ℕ → ℕ → List ℕ → List ℕ → Packed × List ℕ
 packOf u cid sn m s out =
     let r = run u cid sn m s in
     let refusal = refusalOf m (u .kind) (length (pieces m s)) (length r) (length out) cid in
-    cond (eqb refusal 0) (record { refusal = 0; len = length r }, packed r out) (refusedWith refusal, out)
+    cond (eqb refusal 0) (Written (length r), packed r out) (Refused refusal, out)
+
+-- document 01's number for each case; 0 for a unit that was packed
+abbrev pub numberOf : Packed → ℕ
+numberOf (Written len) = 0
+numberOf (Refused n) = n

@@ -3,17 +3,17 @@ ghost use mathlib.Core.Path.{_≡_};
 ghost use Prim.Native.Nat.{_+_, _*_, _≤_, _<_, _%_};
 ghost use lib.ListN.{length};
 ghost use Rattle.packer.specs.Pieces.{maxPieces};
-ghost use Rattle.packer.specs.Packer.{packed, refusedWith, packOf};
+ghost use Rattle.packer.specs.Packer.{packed, packOf};
 ghost use Rattle.packer.specs.Writing.{Planned, planned, plannedRun, Writes};
 use crate::packet;
 use crate::piece;
 use reassembly::unit::Unit;
 
-pub struct Packed {
-    // 70 to 74, or 0.
-    pub refusal: u8,
-    // The bytes written.
-    pub len: usize,
+pub enum Packed {
+    // How many bytes.
+    Written(usize),
+    // 70 to 74.
+    Refused(u8),
 }
 
 // What the packets of a unit have in common: the unit, CID, the first SN, and `n` pieces of at most `m` bytes.
@@ -61,36 +61,30 @@ fn write_run(plan: Plan, bytes: &[u8], output: &mut [u8])
     }
 }
 
-fn refused(refusal: u8) -> Packed
-    ensures { λ r. ⌜ r ≡ refusedWith refusal ⌝ }
-{
-    Packed { refusal, len: 0 }
-}
-
 // Packs a unit of these bytes, whose first packet has the unit's psn, in pieces of at most `m` bytes.
 pub fn pack(unit: Unit, cid: u16, sn: u8, m: usize, bytes: &[u8], output: &mut [u8]) -> Packed
     ensures { λ r. ⌜ (r, now (output .exit)) ≡ packOf unit cid sn m (now (bytes .entry)) (now (output .entry)) ⌝ }
 {
     if m == 0 {
-        return refused(70);
+        return Packed::Refused(70);
     }
     if 1400 < m {
-        return refused(70);
+        return Packed::Refused(70);
     }
     let kind = unit.kind;
     if 4 < kind {
-        return refused(71);
+        return Packed::Refused(71);
     }
     let n = piece::count(bytes.len(), m);
     if piece::MAX_PIECES < n {
-        return refused(72);
+        return Packed::Refused(72);
     }
     let len = n * packet::head_bytes(kind) + bytes.len();
     if output.len() < len {
-        return refused(73);
+        return Packed::Refused(73);
     }
     if 4095 < cid {
-        return refused(74);
+        return Packed::Refused(74);
     }
     let plan = Plan {
         unit,
@@ -100,5 +94,5 @@ pub fn pack(unit: Unit, cid: u16, sn: u8, m: usize, bytes: &[u8], output: &mut [
         n,
     };
     write_run(plan, bytes, output);
-    Packed { refusal: 0, len }
+    Packed::Written(len)
 }

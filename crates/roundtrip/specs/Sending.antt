@@ -12,6 +12,7 @@ use Rattle.reassembly.specs.declared.config.Config.{Config}
 use Rattle.reassembly.specs.declared.unit.Unit.{Unit}
 use Rattle.reassembly.specs.Run.{Content}
 use Rattle.packer.specs.Pieces.{pieces, maxPieces, withPsn}
+use Rattle.packer.specs.declared.pack.Packed.the-variants.{Written}
 use Rattle.packer.specs.Packer.{packets, joined, packed, packOf}
 use Rattle.packer.specs.Reads.{Packable, WholePacket}
 
@@ -92,7 +93,7 @@ abbrev pub Packs : Config → Parcel → Type 0
 Packs cfg x =
     (out : List ℕ) → let r = joined (parcelPackets (cfg .cid) x) in
     length r ≤ length out
-    → packOf (x .unit) (cfg .cid) (x .sn) (x .m) (x .bytes) out ≡ (record { refusal = 0; len = length r }, packed r out)
+    → packOf (x .unit) (cfg .cid) (x .sn) (x .m) (x .bytes) out ≡ (Written (length r), packed r out)
 
 abbrev pub AllPack : Config → List Parcel → Type 0
 AllPack cfg [] = Prim.Unit {0}

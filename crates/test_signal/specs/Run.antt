@@ -4,12 +4,15 @@ use mathlib.Core.Path.{_≡_}
 use mathlib.Core.Bool.{cond}
 use mathlib.Core.List.{List, [], _∷_, _++_}
 use native.Mathlib.Numerals.{add-one}
-use lib.Dec.{eqb, ltb}
+use lib.Dec.{ltb}
 use lib.ListN.{length, take, drop, replicate}
 use Rattle.wire.specs.Field.{bytesOf}
 use Rattle.wire.specs.Memory.{pasted, partOf}
 use Rattle.packer.specs.declared.pack.Packed.{Packed}
+use Rattle.packer.specs.declared.pack.Packed.the-variants.{Written as Packets, Refused as NotPacked}
 use Rattle.packer.specs.Packer.{packOf}
+use Rattle.cutter.specs.declared.slot.CutSlot.{CutSlot}
+use Rattle.cutter.specs.declared.slot.CutSlot.the-variants.{Cut, Refused as NotCut}
 use Rattle.cutter.specs.Slot.{slotOf}
 use Rattle.test_signal.specs.declared.run.Written.{Written}
 use Rattle.test_signal.specs.Sent.{sentAt}
@@ -24,13 +27,19 @@ nullAt at total run =
     cond (ltb (length run - at) total) (at, run)
     (cond (ltb total 4) (at, run) (cond (ltb 16384 total) (at, run) (at + total, pasted run at (nullHead total) 4)))
 
--- unit `k` at `w .at`, in pieces of 700 bytes and with CID 5, and a null packet of 150 bytes behind it
+-- by the packer's answer: a null packet of 150 bytes behind the unit's packets, or nothing
+abbrev pub gapBehind : Packed → Written → List ℕ → Written × List ℕ
+gapBehind (Packets len) w run =
+    let n = nullAt (w .at + len) 150 run in
+    (record { at = n .0; packed = (w .packed + 1) % 2 ^ 64 }, n .1)
+gapBehind (NotPacked n) w run = (w, run)
+
+-- unit `k` at `w .at`, in pieces of 700 bytes and with CID 5, and a null packet behind it
 unfoldable pub unitWritten : Written → ℕ → List ℕ → List ℕ → Written × List ℕ
 unitWritten w k source run =
     let s = sentAt k in
     let p = packOf (s .unit) 5 0 700 (partOf source (s .start) (s .len)) (drop (w .at) run) in
-    let n = nullAt (w .at + p .0 .len) 150 (take (w .at) run ++ p .1) in
-    (record { at = n .0; packed = cond (eqb (p .0 .refusal) 0) ((w .packed + 1) % 2 ^ 64) (w .packed) }, n .1)
+    gapBehind (p .0) w (take (w .at) run ++ p .1)
 
 -- the first `n` units
 unfoldable pub unitsWritten : List ℕ → ℕ → List ℕ → Written × List ℕ
@@ -44,11 +53,13 @@ runOf source run =
     let u = unitsWritten source 4 run in
     (u .0 .packed, nullAt (u .0 .at) (length (u .1) - u .0 .at) (u .1) .1)
 
--- slot `s` of the run, counted from 0, is slot 5s + 1 of the frame: its top and last pointer in the control block
+-- slot `s` of the run, counted from 0, is slot 5s + 1 of the frame: its top and last pointer in the control block, or none
+abbrev pub pointedBy : CutSlot → ℕ → List ℕ → List ℕ
+pointedBy (Cut p) s block = pasted (pasted block (153 + 20 * s) (bytesOf 2 (p .0)) 2) (155 + 20 * s) (bytesOf 2 (p .1)) 2
+pointedBy (NotCut n) s block = block
+
 unfoldable pub pointed : List ℕ → ℕ → List ℕ → List ℕ
-pointed run s block =
-    let slot = slotOf run 1870 s (replicate 1870 0) .0 in
-    pasted (pasted block (153 + 20 * s) (bytesOf 2 (slot .top)) 2) (155 + 20 * s) (bytesOf 2 (slot .last)) 2
+pointed run s block = pointedBy (slotOf run 1870 s (replicate 1870 0) .0) s block
 
 -- the first `n` slots of the run
 unfoldable pub pointedTo : List ℕ → ℕ → List ℕ → List ℕ
@@ -56,14 +67,19 @@ pointedTo run zero block = block
 pointedTo run (suc n) block = pointed run n (pointedTo run n block)
 
 -- a unit, by what the calls left
-pub unit-written : (w : Written) (k : ℕ) (source run : List ℕ) (p : Packed) (out : List ℕ) (end : ℕ) (after : List ℕ)
-    → (p, out)
-    ≡ packOf (sentAt k .unit) 5 0 700 (partOf source (sentAt k .start) (sentAt k .len)) (drop (w .at) run)
-    → (end, after) ≡ nullAt (w .at + p .len) 150 (take (w .at) run ++ out)
-    → (record { at = end; packed = cond (eqb (p .refusal) 0) ((w .packed + 1) % 2 ^ 64) (w .packed) }, after)
-    ≡ unitWritten w k source run
-unfolding unitWritten
-unit-written w k source run p out end after e h = rw (← e, ← h)
+module _ (w : Written) (k : ℕ) (source run out : List ℕ) where
+  abbrev pub packedAt : Packed × List ℕ
+  packedAt = packOf (sentAt k .unit) 5 0 700 (partOf source (sentAt k .start) (sentAt k .len)) (drop (w .at) run)
+
+  pub unit-refused : (n : ℕ) → (NotPacked n, out) ≡ packedAt → unitWritten w k source run ≡ (w, take (w .at) run ++ out)
+  unfolding unitWritten
+  unit-refused n e = rw (← e)
+
+  pub unit-written : (len end : ℕ) (after : List ℕ) → (Packets len, out) ≡ packedAt
+      → (end, after) ≡ nullAt (w .at + len) 150 (take (w .at) run ++ out)
+      → unitWritten w k source run ≡ (record { at = end; packed = (w .packed + 1) % 2 ^ 64 }, after)
+  unfolding unitWritten
+  unit-written len end after e h = rw (← e, ← h)
 
 -- one unit more
 pub units-one : (source : List ℕ) (n : ℕ) (run : List ℕ) (w : Written) (now : List ℕ) (u : Written × List ℕ)

@@ -5,6 +5,8 @@ ghost use lib.ListN.{length};
 ghost use Rattle.test_signal.specs.Run.{nullAt, unitWritten, runOf, pointed, blankBlock, controlBlock};
 use crate::sent;
 use crate::sent::UNITS;
+use cutter::slot::CutSlot;
+use packer::pack::Packed;
 
 // The data bytes of a slot of code rate 1, and the slots of the run.
 pub const L: usize = 1870;
@@ -42,7 +44,7 @@ fn write_null(run: &mut [u8], at: usize, total: usize) -> usize
     at + total
 }
 
-// Unit `k`, and a null packet behind it.
+// Unit `k`, and a null packet behind it; nothing if the packer refuses it.
 fn write_unit(w: Written, k: u64, source: &[u8], run: &mut [u8]) -> Written
     requires { ⌜ w .at ≤ length (now run) ⌝ }
     ensures { λ r. ⌜ ((r, now (run .exit)) ≡ unitWritten w k (now (source .entry)) (now (run .entry)))
@@ -53,15 +55,11 @@ fn write_unit(w: Written, k: u64, source: &[u8], run: &mut [u8]) -> Written
     let bytes = wire::memory::part(source, sent.start, sent.len);
     let unit = sent.unit;
     let call = packer::pack::pack(unit, sent::CID, 0, sent::PIECE, bytes, &mut run[at..]);
-    let end = write_null(run, at + call.len, GAP);
-    if call.refusal != 0 {
-        return Written {
-            at: end,
-            packed: w.packed,
-        };
-    }
+    let Packed::Written(len) = call else {
+        return w;
+    };
     Written {
-        at: end,
+        at: write_null(run, at + len, GAP),
         packed: std::num::wrapping_add_u64(w.packed, 1),
     }
 }
@@ -81,15 +79,18 @@ pub fn write(source: &[u8], run: &mut [u8]) -> u64
     w.packed
 }
 
-// The pointers of slot `s` of the run, counted from 0, which is slot 5s + 1 of the frame.
+// The pointers of slot `s` of the run, counted from 0, which is slot 5s + 1 of the frame; none if the cutter refuses it.
 fn point(run: &[u8], s: usize, block: &mut [u8])
     requires { ⌜ (s < 24) × (1178 ≤ length (now block)) ⌝ }
     ensures { λ _. ⌜ now (block .exit) ≡ pointed (now (run .entry)) s (now (block .entry)) ⌝ }
 {
     let mut bytes = [0u8; 1870];
     let slot = cutter::slot::cut_slot(run, L, s, &mut bytes);
-    wire::field::write16(block, 153 + 20 * s, slot.top);
-    wire::field::write16(block, 155 + 20 * s, slot.last);
+    let CutSlot::Cut(p) = slot else {
+        return;
+    };
+    wire::field::write16(block, 153 + 20 * s, p.0);
+    wire::field::write16(block, 155 + 20 * s, p.1);
 }
 
 // Modulation 1 and rate 1 for 120 slots, and seven unused modes.

@@ -38,7 +38,8 @@ fn run(rng: &mut Prng, len: usize, l: usize) -> Vec<u8> {
     run
 }
 
-/// The refusal, or 0, of both cutters; their outputs are compared whole.
+/// The refusal, or 0, of both cutters; their outputs are compared whole. A refused call leaves the output
+/// and the numbers that it is lent as they were.
 fn compare(run: &[u8], l: usize, s: usize, output: &[u8]) -> u8 {
     let (mut ours, mut theirs) = (output.to_vec(), output.to_vec());
     let answer = cut(run, l, s, &mut ours);
@@ -50,7 +51,10 @@ fn compare(run: &[u8], l: usize, s: usize, output: &[u8]) -> u8 {
     );
     match answer {
         Ok((top, last)) => assert_eq!(other, (0, top, last), "{place}"),
-        Err(number) => assert_eq!(other, (number, 0, 0), "{place}"),
+        Err(number) => {
+            assert_eq!(other, (number, library::TOP, library::LAST), "{place}");
+            assert!(theirs == output, "{place}: output of a refused call");
+        }
     }
     assert!(ours == theirs, "{place}: output");
     answer.err().unwrap_or(0)

@@ -73,9 +73,15 @@ pub fn calls(capture: &[u8], packet: &mut [u8], collecting: &mut [u8], calls: u6
     }
 }
 
-/// Packs a unit; the refusal, or 0, and the length.
+/// What the numbers that are lent for an answer hold before the call: no length or pointer of an
+/// accepted one.
+pub const LEN: u64 = 0xDEAD_BEEF_DEAD_BEEF;
+pub const TOP: u16 = 0xBEEF;
+pub const LAST: u16 = 0xCAFE;
+
+/// Packs a unit; the refusal, or 0, and what the length, `LEN` before the call, then is.
 pub fn pack(unit: &Unit, cid: u16, sn: u8, m: usize, bytes: &[u8], output: &mut [u8]) -> (u8, u64) {
-    let mut len = u64::MAX;
+    let mut len = LEN;
     // SAFETY: as above.
     let refusal = unsafe {
         ixohuemil_pack(
@@ -102,9 +108,9 @@ pub fn pack(unit: &Unit, cid: u16, sn: u8, m: usize, bytes: &[u8], output: &mut 
     (refusal, len)
 }
 
-/// Cuts slot `s`; the refusal, or 0, and the top and last pointer.
+/// Cuts slot `s`; the refusal, or 0, and what the pointers, `TOP` and `LAST` before the call, then are.
 pub fn cut(run: &[u8], l: usize, s: usize, output: &mut [u8]) -> (u8, u16, u16) {
-    let (mut top, mut last) = (1, 1);
+    let (mut top, mut last) = (TOP, LAST);
     // SAFETY: as above.
     let refusal = unsafe {
         ixohuemil_cut(

@@ -1,8 +1,16 @@
-//! The proved library, linked, beside the second decoder: both memories after each call, the packer,
-//! the cutter. Without LINKED_LIB there is no test here.
-#![cfg(linked)]
+//! The proved library beside the second decoder: both memories after each call, the packer, the cutter.
 
+#[cfg(linked)]
 mod calls;
+#[cfg(linked)]
 mod cutter;
+#[cfg(linked)]
 mod library;
+#[cfg(linked)]
 mod packer;
+
+#[cfg(not(linked))]
+#[test]
+fn the_library_is_linked() {
+    panic!("LINKED_LIB is not set: it is the whole path of target/staticlib/liblinked.a (see .ci/run)");
+}

@@ -98,7 +98,8 @@ fn spoil(rng: &mut Prng, call: &mut Call) {
     }
 }
 
-/// The refusal, or 0, of both packers; their outputs are compared whole.
+/// The refusal, or 0, of both packers; their outputs are compared whole. A refused call leaves the output
+/// and the number that it is lent as they were.
 fn compare(call: &Call) -> u8 {
     let Call {
         unit, cid, sn, m, ..
@@ -123,7 +124,10 @@ fn compare(call: &Call) -> u8 {
     );
     match answer {
         Ok(len) => assert_eq!(other, (0, len as u64), "{place}"),
-        Err(number) => assert_eq!(other, (number, 0), "{place}"),
+        Err(number) => {
+            assert_eq!(other, (number, library::LEN), "{place}");
+            assert!(theirs == call.output, "{place}: output of a refused call");
+        }
     }
     assert!(ours == theirs, "{place}: output");
     answer.err().unwrap_or(0)

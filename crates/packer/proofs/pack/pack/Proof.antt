@@ -8,40 +8,26 @@ use borrow.Author.Needs.{needs}
 use Rattle.packer.proofs.pack.pack.Statement.{statement}
 use Rattle.packer.proofs.pack.pack.Tie as tie
 
-refused-requires : tie.Need-refused-requires
-refused-requires c κs = search needs
-
 returns : tie.Need-returns
-returns c =
-    rw (c .refused .ensures) (sym (size-zero _ _ _ _ _ _ (c .before .if1 .taken)))
-
-refused-requires-2 : tie.Need-refused-requires-2
-refused-requires-2 c κs = search needs
+returns c = sym (size-zero _ _ _ _ _ _ (c .if1 .taken))
 
 returns-2 : tie.Need-returns-2
-returns-2 c =
-    rw (c .refused2 .ensures) (sym (size-large _ _ _ _ _ _ (c .before .before .if1 .left) (c .before .if2 .taken)))
-
-refused-requires-3 : tie.Need-refused-requires-3
-refused-requires-3 c κs = search needs
+returns-2 c = sym (size-large _ _ _ _ _ _ (c .before .if1 .left) (c .if2 .taken))
 
 returns-3 : tie.Need-returns-3
 returns-3 c =
-    let d = c .before .before in
-    rw (c .refused3 .ensures) (sym (kind-large _ _ _ _ _ _ (d .before .if1 .left) (d .if2 .left) (c .before .if3 .taken)))
+    let d = c .before in
+    sym (kind-large _ _ _ _ _ _ (d .before .if1 .left) (d .if2 .left) (c .if3 .taken))
 
 count-requires : tie.Need-count-requires
 count-requires c κs = search needs
 
-refused-requires-4 : tie.Need-refused-requires-4
-refused-requires-4 c κs = search needs
-
 returns-4 : tie.Need-returns-4
 returns-4 c =
-    let e = c .before .before .count .ensures in
-    let h = rw e at (c .before .if4 .taken) in
-    let d = c .before .before .before in
-    rw (c .refused4 .ensures) (sym (too-many _ _ _ _ _ _ (d .before .before .if1 .left) (d .before .if2 .left) (d .if3 .left) h))
+    let e = c .before .count .ensures in
+    let h = rw e at (c .if4 .taken) in
+    let d = c .before .before in
+    sym (too-many _ _ _ _ _ _ (d .before .before .if1 .left) (d .before .if2 .left) (d .if3 .left) h)
 
 head-bytes-requires : tie.Need-head-bytes-requires
 head-bytes-requires c κs = search needs
@@ -65,34 +51,26 @@ mul-len c = omega (arith, few c)
 add-len : tie.Need-add-len
 add-len c = omega (arith, few c)
 
-refused-requires-5 : tie.Need-refused-requires-5
-refused-requires-5 c κs = search needs
-
 returns-5 : tie.Need-returns-5
 returns-5 c =
-    let k = c .before .before in
+    let k = c .before in
     let q = k .before .before in
     let d = q .before in
     let e = q .count .ensures in
     let n = rw e at (k .before .if4 .left) in
-    let h = rw (e, k .head-bytes .ensures .0) at (c .before .if5 .taken) in
-    rw (c .refused5 .ensures)
-    (sym (output-short _ _ _ _ _ _ (d .before .before .if1 .left) (d .before .if2 .left) (d .if3 .left) n h))
-
-refused-requires-6 : tie.Need-refused-requires-6
-refused-requires-6 c κs = search needs
+    let h = rw (e, k .head-bytes .ensures .0) at (c .if5 .taken) in
+    sym (output-short _ _ _ _ _ _ (d .before .before .if1 .left) (d .before .if2 .left) (d .if3 .left) n h)
 
 returns-6 : tie.Need-returns-6
 returns-6 c =
-    let g = c .before .before in
+    let g = c .before in
     let k = g .before in
     let q = k .before .before in
     let d = q .before in
     let e = q .count .ensures in
     let n = rw e at (k .before .if4 .left) in
     let l = rw (e, k .head-bytes .ensures .0) at (g .if5 .left) in
-    rw (c .refused6 .ensures)
-    (sym (cid-large _ _ _ _ _ _ (d .before .before .if1 .left) (d .before .if2 .left) (d .if3 .left) n l (c .before .if6 .taken)))
+    sym (cid-large _ _ _ _ _ _ (d .before .before .if1 .left) (d .before .if2 .left) (d .if3 .left) n l (c .if6 .taken))
 
 write-run-requires : tie.Need-write-run-requires
 write-run-requires c κs =
@@ -134,21 +112,15 @@ pub pack-spec : {M : Type 1} → statement M
 pack-spec =
     tie.close
     (tie.spec
-    refused-requires
     returns
-    refused-requires-2
     returns-2
-    refused-requires-3
     returns-3
     count-requires
-    refused-requires-4
     returns-4
     head-bytes-requires
     mul-len
     add-len
-    refused-requires-5
     returns-5
-    refused-requires-6
     returns-6
     write-run-requires
     same-length

@@ -1,10 +1,11 @@
 -- Why `write_unit` meets its contract: the packets end in the run, and so does the null packet.
+use mathlib.Core.Path.{sym}
 use denote.Ref.{now}
-use borrow.Author.Tests.{eq-eqb, ne-eqb}
-use Prim.Native.Nat.{_<_}
+use Prim.Native.Nat.{_<_, _≤_, _-_}
 use native.Mathlib.Omega.{arith}
 use lib.ListN.{length, length-take, length-drop}
-use Rattle.test_signal.proofs.Fits.{pack-fits, unit-put}
+use Rattle.packer.proofs.Refusals.{pack-fits}
+use Rattle.test_signal.proofs.Fits.{refused-put, unit-put}
 use borrow.Author.Needs.{needs}
 use Rattle.test_signal.proofs.run.write_unit.Statement.{statement}
 use Rattle.test_signal.proofs.run.write_unit.Tie as tie
@@ -27,34 +28,43 @@ part-pack-end c = search needs
 pack-requires : tie.Need-pack-requires
 pack-requires c κs = search needs
 
-add-write-null : tie.Need-add-write-null
-add-write-null c =
-    let k = c .before .before .before .before in
-    let s = k .before .before .before .before .before .before .before in
-    let f = simp (length-take, length-drop) at (pack-fits _ _ _ _ _ _ _ _ (k .pack .ensures)) in
-    let n : length (s .args .run .now) < 18446744073709551616 = omega (arith, s .good) in
-    omega (arith, s .pre, n, f)
+enum-known-call : tie.Need-enum-known-call
+enum-known-call c = search needs
 
-write-null-requires : tie.Need-write-null-requires
-write-null-requires c κs =
-    let k = c .before .before .before .before in
-    let f = simp (length-take, length-drop) at (pack-fits _ _ _ _ _ _ _ _ (k .pack .ensures)) in
-    search needs
+enum-told : tie.Need-enum-told
+enum-told c = search needs
 
 same-length : tie.Need-same-length
 same-length c = search needs
 
 returns : tie.Need-returns
-returns c = (
-  let n = c .before .before .before .before in
-      let k = n .before .before .before .before .before in
-      let s = k .before .before .before in
-      let a = s .before .before .before .before .args in
-      let e = rw (s .part .ensures, s .before .unit-at .ensures) at (k .pack .ensures) in
-      let u = unit-put (a .w) (a .k) (now (a .source)) (now (a .run)) _ _ _ _ e (n .write-null .ensures .0) in
-      rw (ne-eqb _ _ (c .if1 .taken)) at u,
-  search needs,
-)
+returns c =
+    let k = c .before .before .before .before in
+    let s = k .before .before .before in
+    let a = s .before .before .before .before .args in
+    let e = rw (c .enum-told .given .1, s .part .ensures, s .before .unit-at .ensures) at (k .pack .ensures) in
+    (sym (refused-put (a .w) (a .k) (now (a .source)) (now (a .run)) _ _ e), search needs)
+
+-- the packets end in the run
+packets-fit : (c : tie.After-write-null-arg)
+    → let a = c .before .before .before .before .before .before .before .before .before .before .before .before .before .args in
+    c .before .before .call .given .0 .0 ≤ length (now (a .run)) - a .w .at
+packets-fit c =
+    let k = c .before .before .before .before .before .before in
+    let e = rw (c .before .before .call .given .1) at (k .pack .ensures) in
+    let f = simp (length-take, length-drop) at (pack-fits _ _ _ _ _ _ _ _ (sym e)) in
+    omega (arith, f)
+
+add-write-null : tie.Need-add-write-null
+add-write-null c =
+    let s = c .before .before .before .before .before .before .before .before .before .before .before .before .before in
+    let n : length (s .args .run .now) < 18446744073709551616 = omega (arith, s .good) in
+    omega (arith, s .pre, n, packets-fit c)
+
+write-null-requires : tie.Need-write-null-requires
+write-null-requires c κs =
+    let f = packets-fit c in
+    search needs
 
 wrapping-add-u64-requires : tie.Need-wrapping-add-u64-requires
 wrapping-add-u64-requires c κs = search needs
@@ -63,16 +73,15 @@ same-length-2 : tie.Need-same-length-2
 same-length-2 c = search needs
 
 returns-2 : tie.Need-returns-2
-returns-2 c = (
-  let n = c .before .before .before .before .before in
-      let k = n .before .before .before .before .before in
-      let s = k .before .before .before in
-      let a = s .before .before .before .before .args in
-      let e = rw (s .part .ensures, s .before .unit-at .ensures) at (k .pack .ensures) in
-      let u = unit-put (a .w) (a .k) (now (a .source)) (now (a .run)) _ _ _ _ e (n .write-null .ensures .0) in
-      rw (eq-eqb _ _ (c .before .if1 .left), ← c .wrapping-add-u64 .ensures) at u,
-  search needs,
-)
+returns-2 c =
+    let n = c .before .before .before in
+    let t = n .before .before .before in
+    let k = t .before .before .before .before in
+    let s = k .before .before .before in
+    let a = s .before .before .before .before .args in
+    let e = rw (t .call .given .1, s .part .ensures, s .before .unit-at .ensures) at (k .pack .ensures) in
+    let u = unit-put (a .w) (a .k) (now (a .source)) (now (a .run)) _ _ _ _ e (n .write-null .ensures .0) in
+    (rw (c .wrapping-add-u64 .ensures) (sym u), search needs)
 
 pub write-unit-spec : {M : Type 1} → statement M
 write-unit-spec =
@@ -84,10 +93,12 @@ write-unit-spec =
     part-pack-start
     part-pack-end
     pack-requires
-    add-write-null
-    write-null-requires
+    enum-known-call
+    enum-told
     same-length
     returns
+    add-write-null
+    write-null-requires
     wrapping-add-u64-requires
     same-length-2
     returns-2)

@@ -1,5 +1,4 @@
-//! The proved totals of a capture beside the second decoder's lines. Without TOTALS_LIB there is no test here.
-#![cfg(totals)]
+//! The totals and collecting memory of many captures.
 
 use second::capture::{Capture, COLLECTING};
 use second::generate::catalogue::{self, FAMILIES};

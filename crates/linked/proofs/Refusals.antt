@@ -1,0 +1,65 @@
+-- Why a refused call of C linkage leaves all that it was lent, and why 0 says that it was not refused.
+use Prim.Native.Nat.{ℕ, _≤_}
+use mathlib.Core.Path.{_≡_, refl, sym, _∙_, ap}
+use mathlib.Core.List.{List}
+use native.Mathlib.Omega.{arith}
+use Rattle.reassembly.specs.declared.unit.Unit.{Unit}
+use Rattle.packer.specs.declared.pack.Packed.{Packed}
+use Rattle.packer.specs.declared.pack.Packed.the-variants.{Written, Refused as NotPacked}
+use Rattle.packer.specs.Packer.{packOf}
+use Rattle.packer.proofs.Refusals.{pack-refused}
+use Rattle.cutter.specs.declared.slot.CutSlot.{CutSlot}
+use Rattle.cutter.specs.declared.slot.CutSlot.the-variants.{Cut, Refused as NotCut}
+use Rattle.cutter.specs.Slot.{slotOf}
+use Rattle.cutter.proofs.Refusals.{cut-refused}
+use Rattle.linked.specs.Answers.{packCall, cutCall, pack-taken, pack-left, cut-taken, cut-left}
+use Rattle.linked.specs.Claims.{PackCallRefused, CutCallRefused, PackCallTaken, CutCallTaken}
+
+pub pack-call-refused : PackCallRefused
+pack-call-refused u cid sn m s out len n len' out' e z = go (packOf u cid sn m s out .0) (packOf u cid sn m s out .1) refl
+  where
+    go : (a : Packed) (b : List ℕ) → (a, b) ≡ packOf u cid sn m s out
+        → (70 ≤ n) × (n ≤ 74) × (len' ≡ len) × (out' ≡ out)
+    go (Written k) b q = absurd (z (ap (λ x. x .0) (sym e ∙ pack-taken u cid sn m s out len k b q)))
+    go (NotPacked k) b q =
+        let g = sym e ∙ pack-left u cid sn m s out len k b q in
+        let r = pack-refused u cid sn m s out k b (sym q) in
+        let o : n ≡ k = ap (λ x. x .0) g in
+        (omega arith, omega arith, ap (λ x. x .1) g, ap (λ x. x .2) g ∙ r .2)
+
+pub pack-call-taken : PackCallTaken
+pack-call-taken u cid sn m s out len len' out' e = go (packOf u cid sn m s out .0) (packOf u cid sn m s out .1) refl
+  where
+    go : (a : Packed) (b : List ℕ) → (a, b) ≡ packOf u cid sn m s out → packOf u cid sn m s out ≡ (Written len', out')
+    go (Written k) b q =
+        let g = sym e ∙ pack-taken u cid sn m s out len k b q in
+        sym q ∙ rw (ap (λ x. x .1) g, ap (λ x. x .2) g)
+    go (NotPacked k) b q =
+        let o : 0 ≡ k = ap (λ x. x .0) (sym e ∙ pack-left u cid sn m s out len k b q) in
+        let r = pack-refused u cid sn m s out k b (sym q) in
+        absurd (omega arith)
+
+pub cut-call-refused : CutCallRefused
+cut-call-refused run l s output top last n top' last' output' e z = go (slotOf run l s output .0) (slotOf run l s output .1) refl
+  where
+    go : (a : CutSlot) (b : List ℕ) → (a, b) ≡ slotOf run l s output
+        → (75 ≤ n) × (n ≤ 78) × (top' ≡ top) × (last' ≡ last) × (output' ≡ output)
+    go (Cut p) b q = absurd (z (ap (λ x. x .0) (sym e ∙ cut-taken run l s output top last b p q)))
+    go (NotCut k) b q =
+        let g = sym e ∙ cut-left run l s output top last b k q in
+        let r = cut-refused run l s output k b (sym q) in
+        let o : n ≡ k = ap (λ x. x .0) g in
+        (omega arith, omega arith, ap (λ x. x .1) g, ap (λ x. x .2) g, ap (λ x. x .3) g ∙ r .2)
+
+pub cut-call-taken : CutCallTaken
+cut-call-taken run l s output top last top' last' output' e = go (slotOf run l s output .0) (slotOf run l s output .1) refl
+  where
+    go : (a : CutSlot) (b : List ℕ) → (a, b) ≡ slotOf run l s output
+        → slotOf run l s output ≡ (Cut (record { 0 = top'; 1 = last' }), output')
+    go (Cut p) b q =
+        let g = sym e ∙ cut-taken run l s output top last b p q in
+        sym q ∙ rw (ap (λ x. x .1) g, ap (λ x. x .2) g, ap (λ x. x .3) g)
+    go (NotCut k) b q =
+        let o : 0 ≡ k = ap (λ x. x .0) (sym e ∙ cut-left run l s output top last b k q) in
+        let r = cut-refused run l s output k b (sym q) in
+        absurd (omega arith)
