@@ -45,7 +45,8 @@ use Rattle.broadcast.specs.Machines.{At}
 use Rattle.broadcast.proofs.Reading.{
   FramesFit,
   frames-read,
-  frames-made,
+  frames-hand,
+  makes-hand,
   frames-fit,
   nothing-left,
   nil-left,
@@ -53,7 +54,7 @@ use Rattle.broadcast.proofs.Reading.{
   unrefused,
   slot-refusal,
 }
-use Rattle.broadcast.proofs.Script.{call-follows}
+use Rattle.broadcast.proofs.Script.{Makes, call-follows}
 use Rattle.broadcast.proofs.Arrivals.{frames-intact, frames-filled, damage-account}
 
 -- what is shown of the account
@@ -215,7 +216,9 @@ module _ (cfg : Config) (e : startOf cfg .refusal ≡ 0) (fs : List Frame) (w : 
       (r .shown-all, r .refused-none)
 
   pub made : (ys : List Made) × Reads cfg fs d p c ys
-  made = let r = frames-made cfg d 0 fs blankLayout (started cfg p c) searching (λ k. fresh) at w in (r .calls, r .follows)
+  made =
+      let r = frames-hand cfg d Makes (makes-hand cfg) 0 fs blankLayout (started cfg p c) searching (λ k. fresh) at w in
+      (r .calls, r .follows)
 
 -- the theorem for frames that fit
 module _ (cfg : Config) (e : startOf cfg .refusal ≡ 0) (fs : List Frame) (w : FramesFit (cfg .stream) fs) (d : Damage)
