@@ -9,7 +9,7 @@ use Rattle.tmcc.specs.declared.layout.Layout.{Layout}
 use Rattle.tlv.specs.Run.{Stepped, State as Slot-state, Arrival, given, lost, step, run, stateAfter, Event as Slot-event}
 use Rattle.reassembly.specs.declared.config.Config.{Config}
 use Rattle.reassembly.specs.Run.{Line}
-use Rattle.receiver.specs.Slot.{wrongLength}
+use Rattle.receiver.specs.Slot.{wrongLength, right-length}
 use Rattle.broadcast.specs.Account.{events, linesAfter, afterEvent}
 use Rattle.broadcast.specs.Drains.{Shown, strip}
 use Rattle.broadcast.specs.Calls.{
@@ -38,7 +38,7 @@ use Rattle.broadcast.specs.Frames.{slotCall, slotsTodo, slotAt, ifOwn, a
 use Rattle.broadcast.proofs.Script.{Left, Makes, call-follows, drain-follows, call-made, drain-made}
 use Rattle.broadcast.specs.Machines.{At}
 use Rattle.broadcast.proofs.Bound.{slot-bound, no-events}
-use Rattle.broadcast.proofs.Items.{Item, own-item, lost-item, other-item, other-lost-item, right-length}
+use Rattle.broadcast.proofs.Items.{Item, own-item, lost-item, other-item, other-lost-item}
 
 -- one list of slot events behind another
 module _ {A : Type 0} (cfg : Config) where
