@@ -1,11 +1,10 @@
 -- Why next is called at most 42,869 times: an event for each held byte, three for each byte of the slot, and three more.
-use Prim.Native.Nat.{ℕ, suc, _+_, _*_, _<_, _≤_}
-use mathlib.Core.Path.{_≡_, refl, ap}
+use Prim.Native.Nat.{ℕ, _+_, _*_, _≤_}
+use mathlib.Core.Path.{_≡_, ap}
 use mathlib.Core.Bool.{Bool, true, false}
 use mathlib.Core.List.{List, [], _∷_, _++_, map}
 use native.Mathlib.Omega.{arith}
-use lib.ListN.{length, take, drop, getD, length-append, length-map, length-take, length-drop}
-use Rattle.tmcc.specs.declared.layout.Layout.{Layout}
+use lib.ListN.{length, take, drop, length-append, length-take, length-drop}
 use Rattle.tlv.specs.declared.held.Continuation.{Continuation}
 use Rattle.tlv.specs.declared.held.Continuation.the-variants.{Dropped, Ends, GoesOn}
 use Rattle.tlv.specs.Packet.{cut, tooLong}
@@ -24,7 +23,6 @@ use Rattle.tlv.specs.Run.{
   lost,
   given,
   step,
-  Stepped,
   packetOf,
   kept,
   readFrom,
@@ -34,17 +32,10 @@ use Rattle.tlv.specs.Run.{
 }
 use Rattle.reassembly.specs.declared.config.Config.{Config}
 use Rattle.reassembly.specs.Run.{Line}
-use Rattle.receiver.specs.declared.state.State.{State}
-use Rattle.receiver.specs.Slot.{wrongLength}
-use Rattle.broadcast.specs.Account.{afterEvent, events, linesAfter}
-use Rattle.broadcast.specs.Drains.{Shown, strip, Drains, stops, notes, units}
+use Rattle.broadcast.specs.Account.{afterEvent, events}
 use Rattle.broadcast.specs.SlotClaims.{Short}
-use Rattle.broadcast.specs.Calls.{Machine, Call, frame, lost-frame, slot, lost-slot, next}
-use Rattle.broadcast.specs.Frames.{slotAt}
-use Rattle.broadcast.specs.Machines.{At}
-use Rattle.broadcast.specs.Bound.{SlotBound, nexts, Drained, NextEnds}
+use Rattle.broadcast.specs.Bound.{SlotBound}
 use Rattle.broadcast.proofs.EventCount.{few-events}
-use Rattle.broadcast.proofs.Items.{Item, own-item, lost-item, lost-frame-item, other-item, other-lost-item, right-length}
 
 module _ {A : Type 0} where
   -- how many events a slot's note or packet gives at most
@@ -139,69 +130,6 @@ slot-bound A cfg f tl h = (
   omega (arith, events-few cfg f (step tl lost .events), lost-few tl),
 )
 
--- a call of next for each event, and the one that says that nothing waits
-nexts-count : {p c c' : List ℕ} {st st' : State} {es : List Shown} (d : Drains p st c es st' c') → nexts d ≡ suc (length es)
-nexts-count (stops e) = refl
-nexts-count (notes e d) = ap suc (nexts-count d)
-nexts-count (units e d) = ap suc (nexts-count d)
-
-module _ {A : Type 0} (cfg : Config) (m : Machine) (tl : Slot-state A) (f : ℕ → Line (List A)) (l : Layout) where
-  -- a call that comes to the slot events of w, and next until nothing waits
-  item-drained : (k : Call) (w : Stepped A) (s : ℕ)
-      → Item cfg m k (w .state) (linesAfter cfg f (w .events)) (map strip (events cfg f (w .events))) l s
-      → length (events cfg f (w .events)) ≤ 42868 → Drained A cfg m k l s
-  item-drained k w s i h =
-      let n : length (map strip (events cfg f (w .events))) ≤ 42868 = rw length-map h in
-      record {
-        answer = i .answer;
-        shown = map strip (events cfg f (w .events));
-        state = i .state;
-        collecting = i .collecting;
-        drains = i .drains;
-        few = n;
-        calls = omega (arith, nexts-count (i .drains));
-        slots = w .state;
-        lines = linesAfter cfg f (w .events);
-        at = i .at;
-      }
-
-  -- a lost own slot, and a lost frame
-  loss-drained : (k : Call) (s : ℕ) → Short tl
-      → Item cfg m k (step tl lost .state) (linesAfter cfg f (step tl lost .events))
-      (map strip (events cfg f (step tl lost .events))) l s
-      → Drained A cfg m k l s
-  loss-drained k s h i = item-drained k (step tl lost) s i (omega (arith, slot-bound A cfg f tl h .1))
-
-  -- another stream's slot, or a dummy, gives nothing
-  abbrev quiet : Stepped A
-  quiet = record { state = tl; events = [] }
-
-  quiet-drained : (k : Call) (s : ℕ) → Item cfg m k tl (linesAfter cfg f []) (map strip (events cfg f [])) l s
-      → Drained A cfg m k l s
-  quiet-drained k s i = item-drained k quiet s i (omega (arith, events-few cfg f []))
-
-  -- by whether the slot is an own live one
-  slot-drained : (a : A) (s : ℕ) (d : List ℕ) → At cfg m tl f l s → s < 120
-      → wrongLength (getD (l .lengths) s 0) (length d) ≡ false → (o : Bool) → getD (l .own) s false ≡ o
-      → Drained A cfg m (slot d) l (suc s)
-  slot-drained a s d k h w true o =
-      item-drained (slot d) (step tl (given a (slotAt l s d))) (suc s) (own-item cfg m tl f l a s d k h o w)
-      (slot-bound A cfg f tl (k .short) .0 a (slotAt l s d) (right-length _ _ w .0))
-  slot-drained a s d k h w false o = quiet-drained (slot d) (suc s) (other-item cfg m tl f l s d k h o w)
-
-  lost-drained : (s : ℕ) → At cfg m tl f l s → s < 120 → (o : Bool) → getD (l .own) s false ≡ o
-      → Drained A cfg m lost-slot l (suc s)
-  lost-drained s k h true o = loss-drained lost-slot (suc s) (k .short) (lost-item cfg m tl f l s k h o)
-  lost-drained s k h false o = quiet-drained lost-slot (suc s) (other-lost-item cfg m tl f l s k h o)
-
-  frame-drained : (s : ℕ) → At cfg m tl f l s → s ≡ 120 → Drained A cfg m lost-frame l s
-  frame-drained s k e =
-      let q = rw e at k in
-      rw e (loss-drained lost-frame 120 (k .short) (lost-frame-item cfg m tl f l q))
-
-pub next-ends : NextEnds
-next-ends A a cfg m tl f l s (frame b) k h = absurd h
-next-ends A a cfg m tl f l s lost-frame k h = frame-drained cfg m tl f l s k h
-next-ends A a cfg m tl f l s (slot d) k h = slot-drained cfg m tl f l a s d k (h .0) (h .1) (getD (l .own) s false) refl
-next-ends A a cfg m tl f l s lost-slot k h = lost-drained cfg m tl f l s k h (getD (l .own) s false) refl
-next-ends A a cfg m tl f l s next k h = absurd h
+-- another stream's slot, or a dummy, gives nothing
+pub no-events : {A : Type 0} (cfg : Config) (f : ℕ → Line (List A)) → length (events cfg f []) ≤ 42868
+no-events cfg f = omega (arith, events-few cfg f [])

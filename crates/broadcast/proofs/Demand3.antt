@@ -1,12 +1,12 @@
 -- Demand 3 holds.
 use Prim.Native.Nat.{ℕ, _*_, _<_, _≤_}
 use mathlib.Core.Path.{_≡_, refl, sym, ap, _∙_, subst}
-use mathlib.Core.Bool.{Bool, true, false, cond, _||_}
+use mathlib.Core.Bool.{Bool, true, false, cond}
 use mathlib.Core.List.{List, [], _∷_, _++_, map}
 use native.Mathlib.Omega.{arith}
-use lib.Dec.{eqb, ltb, leb}
+use lib.Dec.{eqb}
 use lib.ListN.{length, getD, replicate, getD-replicate}
-use borrow.Author.Tests.{eqb-true, eqb-false, ltb-false}
+use borrow.Author.Tests.{eqb-true, eqb-false}
 use Rattle.tmcc.specs.Layout.{blankLayout}
 use Rattle.tlv.specs.Run.{searching, intact, damaged}
 use Rattle.tlv.specs.Row.{row, packetsBy, rowPackets}
@@ -20,8 +20,8 @@ use Rattle.receiver.specs.declared.state.State.{State}
 use Rattle.tmcc.specs.Block.{decodeOf}
 use Rattle.receiver.specs.State.{accepted as acceptedAs, refused as refusedWith, withFrame}
 use Rattle.receiver.specs.Frame.{frameBusy, frameOf}
-use Rattle.receiver.specs.Slot.{refusalOf as slotRefusal, shortBy, wrongLength, slotOf, slotTaken, dueLength, dueOwn, duePointers}
-use Rattle.receiver.specs.Start.{refusalOf as startRefusal, startOf, freshState, blankConfig, twice}
+use Rattle.receiver.specs.Slot.{refusalOf as slotRefusal, wrongLength, slotOf, slotTaken, dueLength, dueOwn, duePointers, ready}
+use Rattle.receiver.specs.Start.{refusalOf as startRefusal, startOf, freshState, blankConfig, starts}
 use Rattle.broadcast.specs.Account.{account}
 use Rattle.broadcast.specs.Carried.{inputs, rowInputs, carriedUnits, intactUnits, contents, Few}
 use Rattle.broadcast.specs.Drains.{strip, LineIs}
@@ -45,7 +45,8 @@ use Rattle.broadcast.specs.Machines.{At}
 use Rattle.broadcast.proofs.Reading.{
   FramesFit,
   frames-read,
-  frames-made,
+  frames-hand,
+  makes-hand,
   frames-fit,
   nothing-left,
   nil-left,
@@ -53,7 +54,7 @@ use Rattle.broadcast.proofs.Reading.{
   unrefused,
   slot-refusal,
 }
-use Rattle.broadcast.proofs.Script.{call-follows}
+use Rattle.broadcast.proofs.Script.{Makes, call-follows}
 use Rattle.broadcast.proofs.Arrivals.{frames-intact, frames-filled, damage-account}
 
 -- what is shown of the account
@@ -80,20 +81,6 @@ start-accepted cfg e = go (eqb (startRefusal cfg) 0) refl e
     go true q h = (eqb-true _ 0 q, refl)
     go false q h = absurd (eqb-false _ 0 q h)
 
-start-places : (cfg : Config) → startRefusal cfg ≡ 0 → cfg .watch .n ≤ 16
-unfolding startRefusal
-start-places cfg e = go (ltb (cfg .watch .n) 1) (ltb 16 (cfg .watch .n)) refl e
-  where
-    rest : ℕ
-    rest =
-        cond (twice (cfg .watch) (cfg .watch .n)) 2
-        (cond (ltb 4095 (cfg .cid)) 3 (cond (ltb (cfg .limit) 1 || ltb 1048576 (cfg .limit)) 4 0))
-
-    go : (a b : Bool) → ltb 16 (cfg .watch .n) ≡ b → cond (a || b) 1 rest ≡ 0 → cfg .watch .n ≤ 16
-    go true b q h = absurd (omega arith)
-    go false true q h = absurd (omega arith)
-    go false false q h = ltb-false 16 (cfg .watch .n) q
-
 fresh-line : (limit : ℕ) (c : List ℕ) (k : ℕ) → k < 16 → LineIs {A = List (ℕ × ℕ)} (getD (replicate 16 unheard) k unheard) k limit c fresh
 unfolding unheard
 fresh-line limit c k h =
@@ -105,7 +92,7 @@ pub start-at : (cfg : Config) (p c : List ℕ) → startOf cfg .refusal ≡ 0 �
 unfolding freshState unheard
 start-at cfg p c e hp hc =
     let s = start-accepted cfg e in
-    let n = start-places cfg (s .0) in
+    let n = starts cfg (s .0) .few in
     rw (s .1)
     (record {
       tracks = record {
@@ -149,18 +136,6 @@ slot-due st p c d e = go (eqb (slotRefusal st (length p) (length c)) 0) refl e
     go true q h = eqb-true _ 0 q
     go false q h = h
 
-pub long-enough : (st : State) (p c : ℕ) → slotRefusal st p c ≡ 0 → (21433 ≤ p) × (st .config .watch .n * st .config .limit ≤ c)
-unfolding slotRefusal shortBy
-long-enough st p c e = go (leb 120 (st .frame .at)) (st .owed) (ltb p 21433) (ltb c (st .config .watch .n * st .config .limit)) refl refl e
-  where
-    go : (x y z w : Bool) → ltb p 21433 ≡ z → ltb c (st .config .watch .n * st .config .limit) ≡ w
-        → _≡_ {A = ℕ} (cond x 20 (cond y 21 (cond (z || w) 22 0))) 0 → (21433 ≤ p) × (st .config .watch .n * st .config .limit ≤ c)
-    go true y z w q r h = absurd (omega arith)
-    go false true z w q r h = absurd (omega arith)
-    go false false true w q r h = absurd (omega arith)
-    go false false false true q r h = absurd (omega arith)
-    go false false false false q r h = (ltb-false _ _ q, ltb-false _ _ r)
-
 -- a slot that is due after the first frame's call
 pub slot-tells : (cfg : Config) (p c b : List ℕ) → startOf cfg .refusal ≡ 0
     → (let m = did (frame b) (started cfg p c) .machine in slotRefusal (m .state) (length (m .packet)) (length (m .collecting)) ≡ 0)
@@ -168,9 +143,9 @@ pub slot-tells : (cfg : Config) (p c b : List ℕ) → startOf cfg .refusal ≡ 
 unfolding did freshState
 slot-tells cfg p c b e h =
     let st = startOf cfg .state in
-    let l = long-enough (frameOf st b .state) (length p) (length c) h in
+    let l = ready (frameOf st b .state) (length p) (length c) h in
     let g : frameOf st b .state .config ≡ cfg = frame-config st b ∙ ap (λ (s : State). s .config) (start-accepted cfg e .1) in
-    (l .0, rw g at (l .1))
+    (l .packets, rw g at (l .collects))
 
 -- the first slot of an undamaged reading was accepted
 enough : (cfg : Config) (f : Frame) (fs : List Frame) (p c : List ℕ) (xs : List Made) → startOf cfg .refusal ≡ 0 → length (f .slots) ≡ 120
@@ -215,7 +190,9 @@ module _ (cfg : Config) (e : startOf cfg .refusal ≡ 0) (fs : List Frame) (w : 
       (r .shown-all, r .refused-none)
 
   pub made : (ys : List Made) × Reads cfg fs d p c ys
-  made = let r = frames-made cfg d 0 fs blankLayout (started cfg p c) searching (λ k. fresh) at w in (r .calls, r .follows)
+  made =
+      let r = frames-hand cfg d Makes (makes-hand cfg) 0 fs blankLayout (started cfg p c) searching (λ k. fresh) at w in
+      (r .calls, r .follows)
 
 -- the theorem for frames that fit
 module _ (cfg : Config) (e : startOf cfg .refusal ≡ 0) (fs : List Frame) (w : FramesFit (cfg .stream) fs) (d : Damage)

@@ -1,12 +1,11 @@
 -- Each call of a reading: it is accepted, and with the calls of next after it shows what the account gives.
 use Prim.Native.Nat.{ℕ, suc, _<_, _≤_}
 use mathlib.Core.Path.{_≡_, refl, sym, ap, _∙_, subst}
-use mathlib.Core.Bool.{Bool, true, false, _||_, not, true≢false, false≢true}
+use mathlib.Core.Bool.{true, false, false≢true}
 use mathlib.Core.List.{List, [], map}
 use native.Mathlib.Omega.{arith}
 use lib.ListN.{length, getD}
-use borrow.Author.Tests.{lt-leb, le-ltb, ltb-false, eqb-true}
-use lib.Dec.{eqb, ltb}
+use borrow.Author.Tests.{lt-leb, le-ltb}
 use native.Mathlib.Numerals.{add-one}
 use Rattle.tmcc.specs.declared.layout.Layout.{Layout}
 use Rattle.tmcc.specs.declared.layout.Pointers.{Pointers}
@@ -16,19 +15,19 @@ use Rattle.reassembly.specs.Run.{Line}
 use Rattle.receiver.specs.declared.state.Frame.{Frame}
 use Rattle.delivery.specs.declared.queue.Queue.{Queue}
 use Rattle.receiver.specs.declared.state.State.{State}
-use Rattle.receiver.specs.State.{accepted as acceptedAs}
 use Rattle.receiver.specs.Frame.{frameBusy, lossOf, lostFrameOf}
 use Rattle.receiver.specs.Slot.{
   counted,
   ownOf,
-  slotOf,
-  lostSlotOf,
   refusalOf,
   shortBy,
   wrongLength,
-  dueLength,
-  dueOwn,
   duePointers,
+  right-length,
+  slot-own,
+  slot-not-own,
+  lost-own,
+  lost-not-own,
 }
 use Rattle.broadcast.specs.Account.{events, linesAfter}
 use Rattle.broadcast.specs.Drains.{Shown, strip, Drains, Tracks}
@@ -108,34 +107,6 @@ due cfg m tl f l s a h =
     let k = a .tracks in
     rw (a .frame, k .config, k .paid, lt-leb _ _ h, le-ltb _ _ (k .packet-long), le-ltb _ _ (k .collecting-long))
 
-module _ (st : State) (p c d : List ℕ) (e : refusalOf st (length p) (length c) ≡ 0) where
-  slot-own : wrongLength (dueLength st) (length d) ≡ false → dueOwn st ≡ true
-      → slotOf st p c d ≡ (let r = ownOf (counted st) p d (duePointers st) in (acceptedAs (r .0), r .1))
-  unfolding slotOf
-  slot-own w o = rw (e, w, o)
-
-  slot-other : wrongLength (dueLength st) (length d) ≡ false → dueOwn st ≡ false → slotOf st p c d ≡ (acceptedAs (counted st), p)
-  unfolding slotOf
-  slot-other w o = rw (e, w, o)
-
-  lost-own : dueOwn st ≡ true → lostSlotOf st (length p) (length c) ≡ acceptedAs (lossOf (counted st))
-  unfolding lostSlotOf
-  lost-own o = rw (e, o)
-
-  lost-other : dueOwn st ≡ false → lostSlotOf st (length p) (length c) ≡ acceptedAs (counted st)
-  unfolding lostSlotOf
-  lost-other o = rw (e, o)
-
--- a slot of the right length
-pub right-length : (l n : ℕ) → wrongLength l n ≡ false → (n ≤ 5049) × (n ≡ l)
-unfolding wrongLength
-right-length l n e = go (ltb 5049 n) (eqb n l) refl refl e
-  where
-    go : (a b : Bool) → ltb 5049 n ≡ a → eqb n l ≡ b → (a || not b) ≡ false → (n ≤ 5049) × (n ≡ l)
-    go true b p q h = absurd (true≢false h)
-    go false true p q h = (ltb-false 5049 n p, eqb-true n l q)
-    go false false p q h = absurd (true≢false h)
-
 -- the next slot is due
 next-due : (st : State) (l : Layout) (s : ℕ) → st .frame ≡ record { layout = l; at = s }
     → counted st .frame ≡ record { layout = l; at = suc s }
@@ -178,7 +149,7 @@ module _ {A : Type 0} (cfg : Config) (m : Machine) (tl : Slot-state A) (f : ℕ 
   unfolding did
   lost-item s k h o =
       let st = m .state in
-      let q = lost-own st (m .packet) (m .collecting) [] (due cfg m tl f l s k h) (rw (k .frame) o) in
+      let q = lost-own st (length (m .packet)) (length (m .collecting)) (due cfg m tl f l s k h) (rw (k .frame) o) in
       taken-item lost-slot (counted st .frame) (lossOf (counted st), m .packet) _ (suc s) (rw q) (next-due st l s (k .frame))
       (k .tracks) (lost-slot-reads A cfg st (m .packet) (m .collecting) tl f (k .tracks))
 
@@ -223,7 +194,7 @@ module _ {A : Type 0} (cfg : Config) (m : Machine) (tl : Slot-state A) (f : ℕ 
   unfolding did
   other-item s d k h o w =
       let st = m .state in
-      let q = slot-other st (m .packet) (m .collecting) d (due cfg m tl f l s k h) (rw (k .frame) w) (rw (k .frame) o) in
+      let q = slot-not-own st (m .packet) (m .collecting) d (due cfg m tl f l s k h) (rw (k .frame) w) (rw (k .frame) o) in
       taken-item (slot d) (counted st .frame) (counted st, m .packet) quiet (suc s) (rw q) (next-due st l s (k .frame)) (k .tracks)
       (other-reads (k .tracks) (k .short))
 
@@ -231,6 +202,6 @@ module _ {A : Type 0} (cfg : Config) (m : Machine) (tl : Slot-state A) (f : ℕ 
   unfolding did
   other-lost-item s k h o =
       let st = m .state in
-      let q = lost-other st (m .packet) (m .collecting) [] (due cfg m tl f l s k h) (rw (k .frame) o) in
+      let q = lost-not-own st (length (m .packet)) (length (m .collecting)) (due cfg m tl f l s k h) (rw (k .frame) o) in
       taken-item lost-slot (counted st .frame) (counted st, m .packet) quiet (suc s) (rw q) (next-due st l s (k .frame)) (k .tracks)
       (other-reads (k .tracks) (k .short))

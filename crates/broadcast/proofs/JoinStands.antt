@@ -7,7 +7,7 @@ use native.Mathlib.Nat.{zero-add}
 use native.Mathlib.Decide.{decLt}
 use native.Mathlib.Omega.{arith}
 use lib.ListN.{length, take, drop, length-drop}
-use Rattle.wire.specs.Memory.{partOf, pasted, length-pasted}
+use Rattle.wire.specs.Memory.{partOf, pasted, part-inside, length-pasted}
 use Rattle.mmtp.specs.declared.payload.Indicator.{Indicator}
 use Rattle.mmtp.specs.declared.payload.Indicator.the-variants.{Whole, First, Middle, Last}
 use Rattle.mmtp.specs.Payload.{unitsFit}
@@ -25,7 +25,7 @@ use Rattle.broadcast.specs.Pending.{givePending}
 use Rattle.broadcast.specs.PacketClaims.{GiveGood}
 use Rattle.broadcast.proofs.JoinCases.{Joins, waits, gives, begins, grows, ends}
 use Rattle.broadcast.proofs.PacketInput.{inputAt, unit-is, wholes-are, wholes-good}
-use Rattle.broadcast.proofs.Parts.{part-in, pasted-behind, pasted-before, pasted-after, regions}
+use Rattle.broadcast.proofs.Parts.{pasted-behind, pasted-before, pasted-after, regions}
 
 -- collecting memory after a packet
 abbrev pub collects : Joined → Located → List ℕ → List ℕ → ℕ → List ℕ
@@ -105,7 +105,7 @@ module _ (limit : ℕ) (l : Located) (p c : List ℕ) (fit : unitsFit (bytesAt l
 
     -- the joined bytes, as show returns them
     shows : (old : List ℕ) → old ≡ take at (drop base c) → partOf (after at) base (at + n) ≡ old ++ inputAt l p .bytes
-    shows old e = let s = same-size in part-in (after at) base (at + n) (omega arith) ∙ sym (behind old e)
+    shows old e = let s = same-size in part-inside (after at) base (at + n) (omega arith) ∙ sym (behind old e)
 
   module _ {A : Type 0} (a : A) (ls : List A) (old : List ℕ) (o : OpenUnit) where
     pub does : (f : Indicator) (ph : Phase) (j : Joined) → Joins limit o (inputAt l p .piece) f ph j

@@ -25,4 +25,6 @@ pub mod Reading
 pub mod Arrivals
 pub mod Demand3
 pub mod Readings
+pub mod Nexts
+pub mod Accepts
 pub mod Broadcast

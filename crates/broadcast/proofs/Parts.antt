@@ -5,28 +5,24 @@ use mathlib.Core.Bool.{Bool, true, false, cond}
 use mathlib.Core.List.{List, [], _++_}
 use native.Mathlib.Nat.{mul-le-mul-right, add-assoc}
 use native.Mathlib.Omega.{arith}
-use borrow.Author.Tests.{le-leb, leb-true}
+use borrow.Author.Tests.{leb-true}
 use lib.Dec.{leb}
 use lib.ListN.{length, take, drop, length-drop}
 use lib.Seq.{take-take, drop-drop, drop-append-le, take-append-le, length-take-le, take-paste, drop-paste}
-use Rattle.wire.specs.Memory.{partOf, pasted}
+use Rattle.wire.specs.Memory.{partOf, pasted, part-inside}
 use Rattle.mmtp.specs.Take.{drop-take}
 
 -- a part that lies in the memory
 module _ (s : List ℕ) (i n : ℕ) (h : i + n ≤ length s) where
-  pub part-in : partOf s i n ≡ take n (drop i s)
-  unfolding partOf
-  part-in = rw (le-leb i (length s) (omega arith), le-leb n (length s - i) (omega arith))
-
   pub length-part : length (partOf s i n) ≡ n
-  length-part = rw part-in (length-take-le n (drop i s) (omega (arith, length-drop i s)))
+  length-part = rw (part-inside s i n h) (length-take-le n (drop i s) (omega (arith, length-drop i s)))
 
 -- a part from a later start
 pub part-from : (s : List ℕ) (i e k : ℕ) → i + k ≤ e → e ≤ length s → partOf s (i + k) (e - (i + k)) ≡ drop k (partOf s i (e - i))
 part-from s i e k h l =
     let n : ℕ = e - (i + k) in
     let z : e - i ≡ k + n = omega arith in
-    rw (part-in s (i + k) n (omega arith), part-in s i (e - i) (omega arith), z, drop-take k n (drop i s), drop-drop k i s)
+    rw (part-inside s (i + k) n (omega arith), part-inside s i (e - i) (omega arith), z, drop-take k n (drop i s), drop-drop k i s)
 
 part-zero : (s : List ℕ) (i : ℕ) → partOf s i 0 ≡ []
 unfolding partOf
@@ -66,8 +62,8 @@ part-part s i n a len h = go (leb i (length s)) refl (leb n (length s - i)) refl
         let z : n ≡ a + b = omega arith in
         let d : drop a (take n (drop i s)) ≡ take b (drop (i + a) s) =
         ap (λ (k : ℕ). drop a (take k (drop i s))) z ∙ drop-take a b (drop i s) ∙ ap (take b) (drop-drop a i s) in
-        part-in s (i + a) len (omega arith)
-        ∙ sym (ap (λ (r : List ℕ). take len (drop a r)) (part-in s i n (omega arith))
+        part-inside s (i + a) len (omega arith)
+        ∙ sym (ap (λ (r : List ℕ). take len (drop a r)) (part-inside s i n (omega arith))
         ∙ ap (take len) d
         ∙ take-take len b (drop (i + a) s) (omega arith))
     go true x false y = outside (part-long s i n x y)

@@ -1,10 +1,10 @@
 -- A reading of frames, whole or damaged: none of its calls is refused, and it shows what the account says.
-use Prim.Native.Nat.{ℕ, suc, _+_}
+use Prim.Native.Nat.{ℕ, suc, _+_, _≤_}
 use mathlib.Core.Path.{_≡_, refl, sym, ap, _∙_, subst}
 use mathlib.Core.Bool.{Bool, true, false, cond}
 use mathlib.Core.List.{List, [], _∷_, _++_, map}
 use native.Mathlib.Omega.{arith}
-use lib.ListN.{length, getD}
+use lib.ListN.{length, getD, length-map}
 use borrow.Author.Tests.{eq-eqb, eqb-true}
 use lib.Dec.{eqb}
 use Rattle.tmcc.specs.declared.layout.Layout.{Layout}
@@ -60,9 +60,20 @@ use Rattle.broadcast.specs.Frames.{
 }
 use Rattle.broadcast.proofs.Script.{Left, Makes, call-follows, call-made}
 use Rattle.broadcast.specs.Machines.{At}
+use Rattle.broadcast.proofs.Bound.{slot-bound}
 use Rattle.broadcast.proofs.Items.{due, lost-frame-item}
-use Rattle.broadcast.proofs.SlotCalls.{item-follows, item-made, SlotsFit, Went, slot-step, shown-on, went-on, slots-read}
-use Rattle.broadcast.proofs.SlotCalls.{slots-made}
+use Rattle.broadcast.proofs.SlotCalls.{
+  item-follows,
+  item-made,
+  SlotsFit,
+  Went,
+  Hands,
+  slot-step,
+  shown-on,
+  went-on,
+  slots-read,
+  slots-hand,
+}
 
 -- frames whose blocks are accepted and whose slots have their lengths
 abbrev pub FramesFit : ℕ → List Frame → Type 0
@@ -201,31 +212,43 @@ module _ (cfg : Config) where
         frame-read i r rs (λ l' m' tl' f' ys b q. frames-read (suc i) rs l' m' tl' f' ys b (w .3) q) l m tl f xs a (d .frames i)
         (w .0) (w .1) (w .2) h
 
-    -- such calls can be made
-    made-by : (k : Call) (ts : List Todo) (m m' : Machine) → did k m ≡ record { answer = accepted; machine = m' } → Makes ts m'
-        → Makes (call k ∷ ts) m
-    made-by k ts m m' e h = call-made ts m k (subst (λ (x : Did). Makes ts (x .machine)) (sym e) h)
+    -- what is handed on over the frames
+    module _ (P : List Todo → Machine → Type 0) (hs : Hands cfg P) where
+      frame-hands : (i : ℕ) (r : Frame) (us : List Todo) (l : Layout) (m : Machine) (tl : Slot-state (ℕ × ℕ))
+          (f : ℕ → Line (List (ℕ × ℕ))) → At cfg m tl f l 120 → (gone : Bool) → decodeOf (r .block) (cfg .stream) .refusal ≡ 0
+          → length (r .slots) ≡ 120 → SlotsFit (layoutIn (cfg .stream) r) 0 (r .slots)
+          → ((l' : Layout) (n : Machine) (u : Slot-state (ℕ × ℕ)) (g : ℕ → Line (List (ℕ × ℕ))) → At cfg n u g l' 120 → P us n)
+          → P (frameTodo gone (d .slots i) r ++ us) m
+      frame-hands i r us l m tl f a true e n w h =
+          let x = lost-frame-item cfg m tl f l a in
+          let few : length (map strip (events cfg f (step tl lost .events))) ≤ 42868 =
+          rw length-map (omega (arith, slot-bound (ℕ × ℕ) cfg f tl (a .short) .1)) in
+          hs .by-item lost-frame tt m _ _ _ l 120 x few us (h l _ _ _ (x .at))
+      frame-hands i r us l m tl f a false e n w h =
+          let l' = layoutIn (cfg .stream) r in
+          hs .by-frame (r .block) (slotsTodo (d .slots i) 0 (r .slots) ++ us) m (framed m l') (frame-did m tl f l (r .block) a e)
+          (slots-hand cfg P hs (d .slots i) i (r .slots) 0 l' (framed m l') tl f us (frame-at m tl f l l' a) (omega (arith, n)) w (h l'))
 
-    frame-made : (i : ℕ) (r : Frame) (us : List Todo) (l : Layout) (m : Machine) (tl : Slot-state (ℕ × ℕ)) (f : ℕ → Line (List (ℕ × ℕ)))
-        → At cfg m tl f l 120 → (gone : Bool) → decodeOf (r .block) (cfg .stream) .refusal ≡ 0 → length (r .slots) ≡ 120
-        → SlotsFit (layoutIn (cfg .stream) r) 0 (r .slots)
-        → ((l' : Layout) (n : Machine) (u : Slot-state (ℕ × ℕ)) (g : ℕ → Line (List (ℕ × ℕ))) → At cfg n u g l' 120 → Makes us n)
-        → Makes (frameTodo gone (d .slots i) r ++ us) m
-    frame-made i r us l m tl f a true e n w h =
-        let x = lost-frame-item cfg m tl f l a in
-        item-made cfg m lost-frame _ _ _ l 120 x us (h l _ _ _ (x .at))
-    frame-made i r us l m tl f a false e n w h =
-        let l' = layoutIn (cfg .stream) r in
-        made-by (frame (r .block)) (slotsTodo (d .slots i) 0 (r .slots) ++ us) m (framed m l') (frame-did m tl f l (r .block) a e)
-        (slots-made cfg (d .slots i) i (r .slots) 0 l' (framed m l') tl f us (frame-at m tl f l l' a) (omega (arith, n)) w (h l'))
+      pub frames-hand : (i : ℕ) (rs : List Frame) (l : Layout) (m : Machine) (tl : Slot-state (ℕ × ℕ)) (f : ℕ → Line (List (ℕ × ℕ)))
+          → At cfg m tl f l 120 → FramesFit (cfg .stream) rs → P (reading d i rs) m
+      unfolding reading
+      frames-hand i [] l m tl f a w = hs .done m
+      frames-hand i (r ∷ rs) l m tl f a w =
+          frame-hands i r (reading d (suc i) rs) l m tl f a (d .frames i) (w .0) (w .1) (w .2)
+          (λ l' n u g b. frames-hand (suc i) rs l' n u g b (w .3))
 
-    pub frames-made : (i : ℕ) (rs : List Frame) (l : Layout) (m : Machine) (tl : Slot-state (ℕ × ℕ)) (f : ℕ → Line (List (ℕ × ℕ)))
-        → At cfg m tl f l 120 → FramesFit (cfg .stream) rs → Makes (reading d i rs) m
-    unfolding reading
-    frames-made i [] l m tl f a w = record { calls = []; follows = refl }
-    frames-made i (r ∷ rs) l m tl f a w =
-        frame-made i r (reading d (suc i) rs) l m tl f a (d .frames i) (w .0) (w .1) (w .2)
-        (λ l' n u g b. frames-made (suc i) rs l' n u g b (w .3))
+  -- such calls can be made
+  made-by : (k : Call) (ts : List Todo) (m m' : Machine) → did k m ≡ record { answer = accepted; machine = m' } → Makes ts m'
+      → Makes (call k ∷ ts) m
+  made-by k ts m m' e h = call-made ts m k (subst (λ (x : Did). Makes ts (x .machine)) (sym e) h)
+
+  pub makes-hand : Hands cfg Makes
+  makes-hand =
+      record {
+        done = λ m. record { calls = []; follows = refl };
+        by-frame = λ b ts m m' e h. made-by (frame b) ts m m' e h;
+        by-item = λ k o m tl f es l s i few ts h. item-made cfg m k tl f es l s i ts h;
+      }
 
   -- what an accepted call tells
   pub nil-left : {B : Type 0} (a b : List B) → a ++ b ≡ [] → a ≡ []

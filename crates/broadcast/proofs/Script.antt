@@ -33,7 +33,7 @@ use Rattle.broadcast.specs.Calls.{
 }
 use Rattle.broadcast.proofs.Refusals.{did-refused}
 
-abbrev machine : State → List ℕ → List ℕ → Machine
+abbrev pub machine : State → List ℕ → List ℕ → Machine
 machine st p c = record { state = st; packet = p; collecting = c }
 
 -- what is left of a list of calls once something prescribed is done: it follows the rest from machine m, and what was shown
@@ -51,7 +51,7 @@ front e l =
     record { calls = l .calls; follows = l .follows; shows-on = ap (λ (r : List Shown). e ∷ r) (l .shows-on); refuses-on = l .refuses-on }
 
 -- what a call of next did
-did-next : (st : State) (p c c' : List ℕ) (a : NextAnswer) → nextOf st p c ≡ (a, c')
+pub did-next : (st : State) (p c c' : List ℕ) (a : NextAnswer) → nextOf st p c ≡ (a, c')
     → did next (machine st p c) ≡ record { answer = eventAnswer (a .event); machine = machine (a .state) p c' }
 unfolding did
 did-next st p c c' a e = rw e

@@ -1,20 +1,25 @@
 -- The calls of a frame's slots, each with next until nothing waits: none is refused, and they show what the account says.
-use Prim.Native.Nat.{ℕ, suc, _+_, _<_}
+use Prim.Native.Nat.{ℕ, suc, _+_, _≤_, _<_}
 use mathlib.Core.Path.{_≡_, refl, sym, ap, _∙_, subst}
 use mathlib.Core.Bool.{Bool, true, false, cond}
 use mathlib.Core.List.{List, [], _∷_, _++_, map, map-append, append-assoc}
 use native.Mathlib.Omega.{arith}
-use lib.ListN.{length, getD}
+use lib.ListN.{length, getD, length-map}
 use Rattle.tmcc.specs.declared.layout.Layout.{Layout}
 use Rattle.tlv.specs.Run.{Stepped, State as Slot-state, Arrival, given, lost, step, run, stateAfter, Event as Slot-event}
 use Rattle.reassembly.specs.declared.config.Config.{Config}
 use Rattle.reassembly.specs.Run.{Line}
-use Rattle.receiver.specs.Slot.{wrongLength}
+use Rattle.receiver.specs.Slot.{wrongLength, right-length}
 use Rattle.broadcast.specs.Account.{events, linesAfter, afterEvent}
 use Rattle.broadcast.specs.Drains.{Shown, strip}
 use Rattle.broadcast.specs.Calls.{
   Machine,
   Call,
+  frame,
+  lost-frame,
+  slot,
+  lost-slot,
+  next,
   accepted,
   did,
   Todo,
@@ -32,6 +37,7 @@ use Rattle.broadcast.specs.Calls.{
 use Rattle.broadcast.specs.Frames.{slotCall, slotsTodo, slotAt, ifOwn, arriving, slotsArrive}
 use Rattle.broadcast.proofs.Script.{Left, Makes, call-follows, drain-follows, call-made, drain-made}
 use Rattle.broadcast.specs.Machines.{At}
+use Rattle.broadcast.proofs.Bound.{slot-bound, no-events}
 use Rattle.broadcast.proofs.Items.{Item, own-item, lost-item, other-item, other-lost-item}
 
 -- one list of slot events behind another
@@ -76,6 +82,18 @@ module _ {A : Type 0} (cfg : Config) (m : Machine) (k : Call) (tl : Slot-state A
   pub item-made : (ts : List Todo) → Makes ts machineThen → Makes (call k ∷ drain ∷ ts) m
   item-made ts h = call-made (drain ∷ ts) m k (drain-made ts (did k m .machine .packet) (i .drains) h)
 
+-- the calls after which next is owed
+abbrev pub Owes : Call → Type 0
+Owes (frame b) = ⊥
+Owes lost-frame = Unit {0}
+Owes (slot d) = Unit {0}
+Owes lost-slot = Unit {0}
+Owes next = ⊥
+
+slot-owes : (gone : Bool) (d : List ℕ) → Owes (slotCall gone d)
+slot-owes true d = tt
+slot-owes false d = tt
+
 -- the slots from number s on have their data lengths
 abbrev pub SlotsFit : Layout → ℕ → List (List ℕ) → Type 0
 SlotsFit l s [] = Unit {0}
@@ -96,6 +114,7 @@ module _ (cfg : Config) where
     pub item : Item cfg m k (does .state) (linesAfter cfg f (does .events)) (map strip (events cfg f (does .events))) l (suc s)
     pub runs : (xs : List (Arrival (ℕ × ℕ))) → run tl (arr ++ xs) ≡ does .events ++ run (does .state) xs
     pub ends : (xs : List (Arrival (ℕ × ℕ))) → stateAfter tl (arr ++ xs) ≡ stateAfter (does .state) xs
+    pub few : length (events cfg f (does .events)) ≤ 42868
 
   module _ (m : Machine) (tl : Slot-state (ℕ × ℕ)) (f : ℕ → Line (List (ℕ × ℕ))) (l : Layout) (i s : ℕ) (d : List ℕ)
       (a : At cfg m tl f l s) (h : s < 120) where
@@ -108,6 +127,7 @@ module _ (cfg : Config) where
           item = lost-item cfg m tl f l s a h o;
           runs = λ xs. refl;
           ends = λ xs. refl;
+          few = omega (arith, slot-bound (ℕ × ℕ) cfg f tl (a .short) .1);
         }
     step-by true false w o =
         record {
@@ -115,6 +135,7 @@ module _ (cfg : Config) where
           item = other-lost-item cfg m tl f l s a h o;
           runs = λ xs. refl;
           ends = λ xs. refl;
+          few = no-events cfg f;
         }
     step-by false true w o =
         record {
@@ -123,6 +144,7 @@ module _ (cfg : Config) where
               own-item cfg m tl f l (i, s) s d a h o (w refl);
           runs = λ xs. refl;
           ends = λ xs. refl;
+          few = slot-bound (ℕ × ℕ) cfg f tl (a .short) .0 (i, s) (slotAt l s d) (right-length _ _ (w refl) .0);
         }
     step-by false false w o =
         record {
@@ -130,6 +152,7 @@ module _ (cfg : Config) where
           item = other-item cfg m tl f l s d a h o (w refl);
           runs = λ xs. refl;
           ends = λ xs. refl;
+          few = no-events cfg f;
         }
 
     pub slot-step : (gone : Bool) → (gone ≡ false → wrongLength (getD (l .lengths) s 0) (length d) ≡ false)
@@ -196,14 +219,26 @@ module _ (cfg : Config) where
       (x .ends tail) h
       (λ ys q g. slots-read gone i ds (suc s) l _ (y .state) (linesAfter cfg f (y .events)) ts ys (x .item .at) (omega (arith, n)) (w .1) q)
 
-  -- the same calls can be made
-  pub slots-made : (gone : ℕ → Bool) (i : ℕ) (ds : List (List ℕ)) (s : ℕ) (l : Layout) (m : Machine) (tl : Slot-state (ℕ × ℕ))
-      (f : ℕ → Line (List (ℕ × ℕ))) (ts : List Todo) → At cfg m tl f l s → s + length ds ≡ 120 → SlotsFit l s ds
-      → ((n : Machine) (u : Slot-state (ℕ × ℕ)) (g : ℕ → Line (List (ℕ × ℕ))) → At cfg n u g l 120 → Makes ts n)
-      → Makes (slotsTodo gone s ds ++ ts) m
+  -- what is handed on from the end of what is prescribed to its beginning: by a frame's call, and by a slot or a lost frame
+  -- with the calls of next, of which there are not many
+  pub record Hands (P : List Todo → Machine → Type 0) : Type 0 where
+    pub done : (m : Machine) → P [] m
+    pub by-frame : (b : List ℕ) (ts : List Todo) (m m' : Machine) → did (frame b) m ≡ record { answer = accepted; machine = m' }
+        → P ts m' → P (call (frame b) ∷ ts) m
+    pub by-item : (k : Call) → Owes k → (m : Machine) (tl : Slot-state (ℕ × ℕ)) (f : ℕ → Line (List (ℕ × ℕ))) (es : List Shown)
+        (l : Layout) (s : ℕ) (i : Item cfg m k tl f es l s) → length es ≤ 42868 → (ts : List Todo)
+        → P ts (record { state = i .state; packet = did k m .machine .packet; collecting = i .collecting })
+        → P (call k ∷ drain ∷ ts) m
+
+  pub slots-hand : (P : List Todo → Machine → Type 0) → Hands P → (gone : ℕ → Bool) (i : ℕ) (ds : List (List ℕ)) (s : ℕ) (l : Layout)
+      (m : Machine) (tl : Slot-state (ℕ × ℕ)) (f : ℕ → Line (List (ℕ × ℕ))) (ts : List Todo) → At cfg m tl f l s
+      → s + length ds ≡ 120 → SlotsFit l s ds
+      → ((n : Machine) (u : Slot-state (ℕ × ℕ)) (g : ℕ → Line (List (ℕ × ℕ))) → At cfg n u g l 120 → P ts n)
+      → P (slotsTodo gone s ds ++ ts) m
   unfolding slotsTodo
-  slots-made gone i [] s l m tl f ts a n w h = h m tl f (subst (λ (k : ℕ). At cfg m tl f l k) (omega (arith, n)) a)
-  slots-made gone i (d ∷ ds) s l m tl f ts a n w h =
+  slots-hand P hs gone i [] s l m tl f ts a n w h = h m tl f (subst (λ (k : ℕ). At cfg m tl f l k) (omega (arith, n)) a)
+  slots-hand P hs gone i (d ∷ ds) s l m tl f ts a n w h =
       let x = slot-step m tl f l i s d a (omega (arith, n)) (gone s) (λ z. w .0) in
-      item-made cfg m (slotCall (gone s) d) (x .does .state) _ _ l (suc s) (x .item) (slotsTodo gone (suc s) ds ++ ts)
-      (slots-made gone i ds (suc s) l _ (x .does .state) _ ts (x .item .at) (omega (arith, n)) (w .1) h)
+      let few : length (map strip (events cfg f (x .does .events))) ≤ 42868 = rw length-map (x .few) in
+      hs .by-item (slotCall (gone s) d) (slot-owes (gone s) d) m (x .does .state) _ _ l (suc s) (x .item) few (slotsTodo gone (suc s) ds ++ ts)
+      (slots-hand P hs gone i ds (suc s) l _ (x .does .state) _ ts (x .item .at) (omega (arith, n)) (w .1) h)

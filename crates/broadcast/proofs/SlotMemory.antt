@@ -5,20 +5,15 @@ use mathlib.Core.List.{List, _++_}
 use native.Mathlib.Omega.{arith}
 use lib.ListN.{length, take, drop, length-drop}
 use lib.Seq.{length-take-le, take-length, take-append-le, take-take, drop-drop, take-add, drop-at, take-paste}
-use borrow.Author.Tests.{le-leb}
-use Rattle.wire.specs.Memory.{partOf, pasted, length-pasted}
+use Rattle.wire.specs.Memory.{partOf, pasted, part-inside, length-pasted}
 use Rattle.tlv.specs.Packet.{cut}
 use Rattle.tlv.specs.Cuts.{cut-tail, cut-tail-length}
 use Rattle.intake.specs.declared.held.Held.{Held}
 use Rattle.intake.specs.Slot.{slotArea, copied, movedMem, continuedMem, heldBytes, heldLen}
 
 module _ (p : List ℕ) where
-  pub part-is : (s n : ℕ) → s + n ≤ length p → partOf p s n ≡ take n (drop s p)
-  unfolding partOf
-  part-is s n h = rw (le-leb s (length p) (omega arith), le-leb n (length p - s) (omega arith))
-
   pub front-is : (n : ℕ) → n ≤ length p → partOf p 0 n ≡ take n p
-  front-is n h = part-is 0 n (omega arith)
+  front-is n h = part-inside p 0 n (omega arith)
 
   pub length-front : (n : ℕ) → n ≤ length p → length (partOf p 0 n) ≡ n
   length-front n h = rw (front-is n h) (length-take-le n p h)
@@ -33,7 +28,7 @@ module _ (p : List ℕ) where
 
   module _ (s e : ℕ) (h : s ≤ e) (k : e ≤ length p) where
     pub part-end : drop s (partOf p 0 e) ≡ partOf p s (e - s)
-    part-end = ap (drop s) (front-is e k) ∙ window s e h k ∙ sym (part-is s (e - s) (omega arith))
+    part-end = ap (drop s) (front-is e k) ∙ window s e h k ∙ sym (part-inside p s (e - s) (omega arith))
 
     pub length-part-end : length (drop s (partOf p 0 e)) ≡ e - s
     length-part-end = length-drop s (partOf p 0 e) ∙ ap (λ (n : ℕ). n - s) (length-front e k)
@@ -44,7 +39,7 @@ module _ (p : List ℕ) where
         ap (λ (b : List ℕ). take n (drop s b)) (front-is e k)
         ∙ ap (take n) (window s e h k)
         ∙ take-take n (e - s) (drop s p) (omega arith)
-        ∙ sym (part-is s n (omega arith))
+        ∙ sym (part-inside p s n (omega arith))
 
   -- where the tail of it stands
   module _ (s e : ℕ) (h : s ≤ e) (k : e ≤ length p) where
@@ -101,7 +96,7 @@ module _ (h : Held) (p d : List ℕ) (k : ℕ) (inside : h .start + h .len ≤ l
     (enough : k ≤ length d) where
   held-length : heldLen h p ≡ h .len
   held-length =
-      rw (part-is p (h .start) (h .len) inside) (length-take-le (h .len) (drop (h .start) p) (rw length-drop (omega arith)))
+      rw (part-inside p (h .start) (h .len) inside) (length-take-le (h .len) (drop (h .start) p) (rw length-drop (omega arith)))
 
   bytes-left : heldLen h p ≤ length (drop (h .start) p)
   bytes-left = rw (held-length, length-drop (h .start) p) (omega arith)
@@ -119,7 +114,7 @@ module _ (h : Held) (p d : List ℕ) (k : ℕ) (inside : h .start + h .len ≤ l
       ap (λ (n : ℕ). take n moved) z
       ∙ take-paste p 0 (drop (h .start) p) (heldLen h p) (omega arith) bytes-left
       ∙ ap (λ (n : ℕ). take n (drop (h .start) p)) held-length
-      ∙ sym (part-is p (h .start) (h .len) inside)
+      ∙ sym (part-inside p (h .start) (h .len) inside)
 
   pub length-continued : length (continuedMem h p d k) ≡ length p
   unfolding continuedMem movedMem

@@ -14,4 +14,5 @@ pub mod Machines
 pub mod Bound
 pub mod Demand3
 pub mod Readings
+pub mod Accepts
 pub mod Broadcast

@@ -8,3 +8,4 @@ pub mod Next
 pub mod ReadOn
 pub mod Show
 pub mod Examples
+pub mod Claims

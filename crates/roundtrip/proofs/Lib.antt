@@ -4,3 +4,4 @@ pub mod Inputs
 pub mod Units
 pub mod RoundTrip
 pub mod Example
+pub mod Shown

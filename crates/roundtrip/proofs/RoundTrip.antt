@@ -72,7 +72,7 @@ module _ (cfg : Config) (cid : cfg .cid ≤ 4095) where
         inputs = brings-append cfg (parcelPackets (cfg .cid) u) (allPackets (cfg .cid) us) ∙ rw (q .1, t .inputs);
       }
 
-  all-sent : (us : List Parcel) (h : AllSendable cfg us) → Sent cfg us h
+  pub all-sent : (us : List Parcel) (h : AllSendable cfg us) → Sent cfg us h
   all-sent [] h =
       record {
         good = unfold allPackets in (tt, tt);

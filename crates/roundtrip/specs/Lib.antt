@@ -2,3 +2,4 @@
 pub mod Sending
 pub mod RoundTrip
 pub mod Example
+pub mod Shown

@@ -40,6 +40,25 @@ accepted b id e =
 pub accepted-layout : (b : List ℕ) (id : ℕ) → decodeOf b id .refusal ≡ 0 → decodeOf b id .layout ≡ layoutOf b (ownStream b id)
 accepted-layout b id e = ap (λ (d : Decoded). d .layout) (accepts b id (accepted b id e))
 
+-- and one that is refused has its number
+abbrev Numbered : Decoded → Type 0
+Numbered d = (d .refusal ≡ 0 → ⊥) → (10 ≤ d .refusal) × (d .refusal ≤ 14)
+
+either : (t : Bool) (x y : Decoded) → Numbered x → Numbered y → Numbered (cond t x y)
+either true x y f g = f
+either false x y f g = g
+
+pub refusal-number : (b : List ℕ) (id : ℕ) → Numbered (decodeOf b id)
+unfolding decodeOf
+refusal-number b id =
+    either (eqb (length b) 1178) _ _
+    (either (modesGood b) _ _
+    (either (eqb (countBelow (chosen b id) 16) 1) _ _
+    (either (eqb (countBelow (ownSlot b (ownStream b id)) 120) 0) _ _ (λ z. (omega arith, omega arith)) (λ z. absurd (z refl)))
+    (λ z. (omega arith, omega arith)))
+    (λ z. (omega arith, omega arith)))
+    (λ z. (omega arith, omega arith))
+
 -- a layout's three arrays have 120 entries, and at slot s stands what the block gives it
 pub layout-sizes : (b : List ℕ) (own : ℕ)
     → (length (layoutOf b own .pointers) ≡ 120) × (length (layoutOf b own .lengths) ≡ 120) × (length (layoutOf b own .own) ≡ 120)

@@ -1,12 +1,13 @@
 -- A memory with bytes put into it, and a part of a memory.
 use Prim.Native.Nat.{ℕ, suc, _+_, _-_, _<_, _≤_}
 use mathlib.Core.Path.{_≡_, refl, sym, _∙_, ap}
-use mathlib.Core.Bool.{cond}
+use mathlib.Core.Bool.{Bool, true, false, cond}
 use mathlib.Core.List.{List, [], _∷_, _++_, append-assoc}
 use native.Mathlib.Nat.{add-zero, add-assoc}
 use native.Mathlib.Numerals.{add-one}
 use native.Mathlib.Omega.{arith}
 use lib.ListN.{length, getD, set, take, drop, length-append, length-take, length-drop}
+use borrow.Author.Tests.{le-leb, lt-leb, leb-true}
 use lib.Dec.{leb}
 use lib.Seq.{paste, paste-zero, paste-suc, length-paste, take-paste, drop-paste, drop-drop, take-all, take-length, take-append-add}
 
@@ -17,6 +18,19 @@ pasted d at s n = paste d at s n
 -- the `len` bytes of `s` from `start`; none where one of them lies outside
 unfoldable pub partOf : List ℕ → ℕ → ℕ → List ℕ
 partOf s start len = cond (leb start (length s)) (cond (leb len (length s - start)) (take len (drop start s)) []) []
+
+-- by where it lies
+pub part-inside : (s : List ℕ) (start len : ℕ) → start + len ≤ length s → partOf s start len ≡ take len (drop start s)
+unfolding partOf
+part-inside s start len h = rw (le-leb start (length s) (omega arith), le-leb len (length s - start) (omega arith))
+
+pub part-outside : (s : List ℕ) (start len : ℕ) → length s < start + len → partOf s start len ≡ []
+unfolding partOf
+part-outside s start len h = go (leb start (length s)) refl
+  where
+    go : (b : Bool) → leb start (length s) ≡ b → cond b (cond (leb len (length s - start)) (take len (drop start s)) []) [] ≡ []
+    go true e = let i : start ≤ length s = leb-true _ _ e in rw (lt-leb len (length s - start) (omega arith))
+    go false e = refl
 
 -- a list from `n` to its end
 pub slice-rest : (b : List ℕ) (n : ℕ) → take (length b - n) (drop n b) ≡ drop n b

@@ -1,0 +1,3 @@
+-- What is proved of the calls beside their code.
+pub mod Unrefused
+pub mod Demand1

@@ -1,0 +1,49 @@
+-- Demand 1: "a refused call returns its number from document 01 and changes neither the state nor a byte of memory. Damage inside
+-- slots gives a note, not a refusal." Of every state and every input, also of states that start never makes. That every call
+-- ends is what the prover shows of each function.
+use Prim.Native.Nat.{ℕ, _+_, _≤_, _<_}
+use mathlib.Core.Path.{_≡_}
+use mathlib.Core.Bool.{true}
+use mathlib.Core.List.{List, []}
+use lib.ListN.{length, take, drop}
+use Rattle.reassembly.specs.declared.config.Config.{Config}
+use Rattle.delivery.specs.declared.event.Event.the-variants.{Refused}
+use Rattle.delivery.specs.declared.event.Place.{Place}
+use Rattle.receiver.specs.declared.state.State.{State}
+use Rattle.receiver.specs.declared.answer.Called.{Called}
+use Rattle.receiver.specs.Start.{blankConfig, freshState, startOf}
+use Rattle.receiver.specs.Frame.{frameOf, lostFrameOf}
+use Rattle.receiver.specs.Slot.{shortBy, slotOf, lostSlotOf}
+use Rattle.receiver.specs.Next.{nextOf}
+use Rattle.receiver.specs.Show.{memoryOf, showOf}
+
+abbrev pub IsRefused : Called → Type 0
+IsRefused r = r .refusal ≡ 0 → ⊥
+
+-- what a refused call answers: a number of its row of the table, `first` to `last`, and the state that it was given
+pub record Kept (first last : ℕ) (st : State) (r : Called) : Type 0 where
+  pub number : (first ≤ r .refusal) × (r .refusal ≤ last)
+  pub state : r .state ≡ st
+
+pub record Demand1 : Type 0 where
+  -- start is given no state: a fixed blank one stands beside the number
+  pub start : (c : Config) → IsRefused (startOf c) → Kept 1 4 (freshState blankConfig) (startOf c)
+  pub frame : (st : State) (block : List ℕ) → IsRefused (frameOf st block) → Kept 10 14 st (frameOf st block)
+  pub lost-frame : (st : State) → IsRefused (lostFrameOf st) → Kept 11 11 st (lostFrameOf st)
+  -- slot may change packet memory, and next collecting memory; what else a call is lent it can only read
+  pub slot : (st : State) (packet collecting bytes : List ℕ) → let r = slotOf st packet collecting bytes in
+      IsRefused (r .0) → Kept 20 23 st (r .0) × (r .1 ≡ packet)
+  pub lost-slot : (st : State) (packet collecting : ℕ) → let r = lostSlotOf st packet collecting in
+      IsRefused r → Kept 20 22 st r
+  pub next : (st : State) (packet collecting : List ℕ) (n : ℕ) → let r = nextOf st packet collecting in
+      r .0 .event ≡ Refused n → (n ≡ 22) × (r .0 .state ≡ st) × (r .1 ≡ collecting)
+  -- show is never refused: every place has its part of a memory, one outside an empty one
+  pub show : (packet collecting : List ℕ) (x : Place) → let m = memoryOf (x .memory) packet collecting in
+      (x .start + x .len ≤ length m → showOf packet collecting x ≡ take (x .len) (drop (x .start) m))
+      × (length m < x .start + x .len → showOf packet collecting x ≡ [])
+  -- whether a slot is refused, and with which number, is the same for all bytes: the lengths alone count
+  pub slot-bytes : (st : State) (p₁ c₁ d₁ p₂ c₂ d₂ : List ℕ) → length p₁ ≡ length p₂ → length c₁ ≡ length c₂ → length d₁ ≡ length d₂
+      → slotOf st p₁ c₁ d₁ .0 .refusal ≡ slotOf st p₂ c₂ d₂ .0 .refusal
+  -- and next is refused for short memories alone
+  pub next-bytes : (st : State) (packet collecting : List ℕ) (n : ℕ) → nextOf st packet collecting .0 .event ≡ Refused n
+      → shortBy (st .config) (length packet) (length collecting) ≡ true
