@@ -16,8 +16,6 @@ use Rattle.mmtp.specs.declared.unit.Fields.{Fields}
 use Rattle.mmtp.specs.declared.unit.DataUnit.{DataUnit}
 use Rattle.mmtp.specs.declared.unit.Step.{Step}
 use Rattle.mmtp.specs.declared.unit.Step.the-variants.{Unit, Malformed, End}
-use Rattle.mmtp.specs.declared.unit.Span.{Span}
-use Rattle.mmtp.specs.declared.unit.Span.the-variants.{To, Malformed as Cut}
 
 -- kind 2: movie fragment number 32, sample 32, offset 32, priority 8, dependency 8; kind 3: item id 32
 unfoldable pub fieldBytes : ℕ → ℕ
@@ -69,8 +67,9 @@ unitFits b kind wide =
 abbrev pub unitEnd : List ℕ → ℕ → Bool → ℕ
 unitEnd m at wide = at + lengthBytes wide + unitLength wide (drop at m)
 
-unfoldable pub spanAt : List ℕ → ℕ → ℕ → Bool → Span
-spanAt m at kind wide = cond (unitFits (drop at m) kind wide) (To (unitEnd m at wide)) Cut
+-- the place behind the unit at `at`: where a reader that stands there is moved to. Where no whole unit stands, it stays
+unfoldable pub placeBehind : List ℕ → ℕ → ℕ → Bool → ℕ
+placeBehind m at kind wide = cond (unitFits (drop at m) kind wide) (unitEnd m at wide) at
 
 -- the unit at a place of an aggregate: its fields, and the place of its bytes
 unfoldable pub dataUnit : List ℕ → ℕ → ℕ → Bool → DataUnit
@@ -207,44 +206,45 @@ unit-fits-end m at kind wide h =
     let w = length-bytes-pos wide in
     (omega arith, omega arith)
 
--- the unit's end, by its three tests
+-- the place behind a unit, by the unit's three tests
 module _ (m : List ℕ) (at kind : ℕ) (wide : Bool) where
-  pub span-short : length m - at < lengthBytes wide → spanAt m at kind wide ≡ Cut
-  unfolding spanAt unitFits
-  span-short h = rw (length-drop, lt-leb _ _ h)
+  pub behind-short : length m - at < lengthBytes wide → placeBehind m at kind wide ≡ at
+  unfolding placeBehind unitFits
+  behind-short h = rw (length-drop, lt-leb _ _ h)
 
-  pub span-over : lengthBytes wide ≤ length m - at → length m - at - lengthBytes wide < unitLength wide (drop at m)
-      → spanAt m at kind wide ≡ Cut
-  unfolding spanAt unitFits
-  span-over h k = rw (length-drop, le-leb _ _ h, lt-leb _ _ k)
+  pub behind-over : lengthBytes wide ≤ length m - at → length m - at - lengthBytes wide < unitLength wide (drop at m)
+      → placeBehind m at kind wide ≡ at
+  unfolding placeBehind unitFits
+  behind-over h k = rw (length-drop, le-leb _ _ h, lt-leb _ _ k)
 
-  pub span-bare : lengthBytes wide ≤ length m - at → unitLength wide (drop at m) ≤ length m - at - lengthBytes wide
-      → unitLength wide (drop at m) < fieldBytes kind → spanAt m at kind wide ≡ Cut
-  unfolding spanAt unitFits
-  span-bare h k l = rw (length-drop, le-leb _ _ h, le-leb _ _ k, lt-leb _ _ l)
+  pub behind-bare : lengthBytes wide ≤ length m - at → unitLength wide (drop at m) ≤ length m - at - lengthBytes wide
+      → unitLength wide (drop at m) < fieldBytes kind → placeBehind m at kind wide ≡ at
+  unfolding placeBehind unitFits
+  behind-bare h k l = rw (length-drop, le-leb _ _ h, le-leb _ _ k, lt-leb _ _ l)
 
-  pub span-whole : lengthBytes wide ≤ length m - at → unitLength wide (drop at m) ≤ length m - at - lengthBytes wide
-      → fieldBytes kind ≤ unitLength wide (drop at m) → spanAt m at kind wide ≡ To (unitEnd m at wide)
-  unfolding spanAt unitFits
-  span-whole h k l = rw (length-drop, le-leb _ _ h, le-leb _ _ k, le-leb _ _ l)
+  pub behind-whole : lengthBytes wide ≤ length m - at → unitLength wide (drop at m) ≤ length m - at - lengthBytes wide
+      → fieldBytes kind ≤ unitLength wide (drop at m) → placeBehind m at kind wide ≡ unitEnd m at wide
+  unfolding placeBehind unitFits
+  behind-whole h k l = rw (length-drop, le-leb _ _ h, le-leb _ _ k, le-leb _ _ l)
 
-span-by : (t : Bool) (x e : ℕ) → cond t (To x) Cut ≡ To e → (t ≡ true) × (e ≡ x)
-span-by true x e h = (refl, cc)
-span-by false x e h = (cc, cc)
+on-by : (t : Bool) (x at : ℕ) → at < cond t x at → (t ≡ true) × (cond t x at ≡ x)
+on-by true x at h = (refl, refl)
+on-by false x at h = absurd (omega arith)
 
-cut-by : (t : Bool) (x : ℕ) → cond t (To x) Cut ≡ Cut → t ≡ false
-cut-by true x h = cc
-cut-by false x h = refl
+stays-by : (t : Bool) (x at : ℕ) → (t ≡ true → at < x) → cond t x at ≤ at → t ≡ false
+stays-by true x at f h = let l = f refl in absurd (omega arith)
+stays-by false x at f h = refl
 
--- what the end of a unit tells
-pub span-to : (m : List ℕ) (at kind : ℕ) (wide : Bool) (e : ℕ) → spanAt m at kind wide ≡ To e
-    → (unitFits (drop at m) kind wide ≡ true) × (e ≡ unitEnd m at wide)
-unfolding spanAt
-span-to m at kind wide e h = span-by (unitFits (drop at m) kind wide) _ e h
+-- a reader gets on exactly where a unit fits
+module _ (m : List ℕ) (at kind : ℕ) (wide : Bool) where
+  pub behind-on : at < placeBehind m at kind wide
+      → (unitFits (drop at m) kind wide ≡ true) × (placeBehind m at kind wide ≡ unitEnd m at wide)
+  unfolding placeBehind
+  behind-on h = on-by (unitFits (drop at m) kind wide) _ at h
 
-pub span-cut : (m : List ℕ) (at kind : ℕ) (wide : Bool) → spanAt m at kind wide ≡ Cut → unitFits (drop at m) kind wide ≡ false
-unfolding spanAt
-span-cut m at kind wide h = cut-by (unitFits (drop at m) kind wide) _ h
+  pub behind-stays : placeBehind m at kind wide ≤ at → unitFits (drop at m) kind wide ≡ false
+  unfolding placeBehind
+  behind-stays h = stays-by (unitFits (drop at m) kind wide) _ at (λ u. unit-fits-end m at kind wide u .1) h
 
 fields-by : (timed item : Bool) (n : ℕ) (u : List ℕ) → cond timed 14 (cond item 4 0) ≤ n
     → cond timed (timedFields (take n u)) (cond item (itemFields (take n u)) noFields)
@@ -306,6 +306,21 @@ module _ (m : List ℕ) (at kind : ℕ) (wide : Bool) where
 
   pub fits-end : length m ≤ at → aggregate (drop at m) kind wide .fits ≡ true
   fits-end l = let d = length-drop at m in rw (aggregate-none (drop at m) kind wide (omega arith))
+
+  -- the walk of a reader: it gets on in the packet, or stands at the end exactly if the units fill it
+  pub walk-on : at < placeBehind m at kind wide → (placeBehind m at kind wide ≤ length m)
+      × (aggregate (drop (placeBehind m at kind wide) m) kind wide .fits ≡ aggregate (drop at m) kind wide .fits)
+  walk-on h =
+      let b = behind-on m at kind wide h in
+      rw (b .1) (unit-fits-end m at kind wide (b .0) .0, fits-on (b .0))
+
+  stands-by : (t : Bool) → leb (length m) at ≡ t → unitFits (drop at m) kind wide ≡ false
+      → leb (length m) at ≡ aggregate (drop at m) kind wide .fits
+  stands-by true e u = e ∙ sym (fits-end (leb-true _ _ e))
+  stands-by false e u = e ∙ sym (fits-not (leb-false _ _ e) u)
+
+  pub walk-stands : placeBehind m at kind wide ≤ at → leb (length m) at ≡ aggregate (drop at m) kind wide .fits
+  walk-stands h = stands-by (leb (length m) at) refl (behind-stays m at kind wide h)
 
 -- the unit at a place where an aggregate goes on: how the aggregate is read unit by unit
 pub record Next (m : List ℕ) (at kind : ℕ) (wide : Bool) : Type 0 where

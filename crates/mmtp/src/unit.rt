@@ -3,8 +3,8 @@ ghost use mathlib.Core.Path.{_≡_};
 ghost use Prim.Native.Nat.{_+_, _≤_, _<_};
 ghost use lib.ListN.{length, drop};
 ghost use Rattle.wire.specs.Field.{be};
-ghost use Rattle.mmtp.specs.Unit.{fieldBytes, fieldsOf, lengthBytes, spanAt, unitAt, singleFits, singleAt, aggregateFits};
-use crate::reader::unit_span;
+ghost use Rattle.mmtp.specs.Unit.{fieldBytes, fieldsOf, lengthBytes, placeBehind, unitAt, singleFits, singleAt, aggregateFits};
+use crate::reader;
 use wire::field;
 
 // The fields of a data unit; 0 where its kind has none.
@@ -31,12 +31,6 @@ pub enum Step {
     Unit(DataUnit),
     Malformed,
     End,
-}
-
-// The end of a data unit.
-pub enum Span {
-    To(usize),
-    Malformed,
 }
 
 // The bytes of the fields that each data unit of a kind begins with.
@@ -99,26 +93,26 @@ fn length_at(m: &[u8], at: usize, wide: bool) -> usize
     }
 }
 
-// Where the aggregated unit at `at` ends, if it is whole and has its fields: the work of `reader::step`.
-pub fn span_at(m: &[u8], at: usize, kind: u8, wide: bool) -> Span
-    ensures { λ r. ⌜ r ≡ spanAt (now (m .entry)) at kind wide ⌝ }
+// Where the aggregated unit at `at` ends, if it is whole and has its fields; else `at`: the work of `reader::moved`.
+pub fn unit_end(m: &[u8], at: usize, kind: u8, wide: bool) -> usize
+    ensures { λ r. ⌜ r ≡ placeBehind (now (m .entry)) at kind wide ⌝ }
 {
     if m.len() < at {
-        return Span::Malformed;
+        return at;
     }
     let left = m.len() - at;
     let w = length_bytes(wide);
     if left < w {
-        return Span::Malformed;
+        return at;
     }
     let n = length_at(m, at, wide);
     if left - w < n {
-        return Span::Malformed;
+        return at;
     }
     if n < field_bytes(kind) {
-        return Span::Malformed;
+        return at;
     }
-    Span::To(at + w + n)
+    at + w + n
 }
 
 // The aggregated unit at `at`.
@@ -128,10 +122,10 @@ pub fn unit_at(m: &[u8], at: usize, kind: u8, wide: bool) -> Step
     if m.len() <= at {
         return Step::End;
     }
-    let span = unit_span(m, at, kind, wide);
-    let Span::To(end) = span else {
+    let end = reader::place_behind(m, at, kind, wide);
+    if end <= at {
         return Step::Malformed;
-    };
+    }
     let from = at + length_bytes(wide);
     let fields = fields_at(m, from, kind);
     let start = from + field_bytes(kind);
@@ -168,17 +162,5 @@ pub fn aggregate_fits(m: &[u8], start: usize, kind: u8, wide: bool) -> bool
     if m.len() <= start {
         return false;
     }
-    let mut at = start;
-    while at < m.len() {
-        let span = unit_span(m, at, kind, wide);
-        match span {
-            Span::To(end) => {
-                at = end;
-            }
-            Span::Malformed => {
-                return false;
-            }
-        }
-    }
-    true
+    reader::walks(m, start, kind, wide)
 }

@@ -1,46 +1,43 @@
--- Why unit_at meets its contract: past the end, cut, or where its span says.
+-- Why unit_at meets its contract: past the end, no whole unit, or a unit that ends where the reader was moved to.
 use Prim.Native.Nat.{_+_, _≤_}
-use mathlib.Core.Path.{_≡_, sym, _∙_}
+use mathlib.Core.Path.{_≡_, _∙_}
 use mathlib.Core.Bool.{true}
 use native.Mathlib.Omega.{arith}
 use borrow.Author.Tests.{le-leb, lt-leb}
 use borrow.Author.Needs.{needs}
 use lib.ListN.{length, drop, length-drop}
-use Rattle.mmtp.specs.Unit.{fieldBytes, lengthBytes, unitFits, unitAt, unitEnd, dataUnit, span-to, span-cut, unit-fits}
+use Rattle.mmtp.specs.Unit.{fieldBytes, lengthBytes, unitFits, unitAt, unitEnd, dataUnit, behind-on, behind-stays, unit-fits}
 use Rattle.mmtp.proofs.unit.unit_at.Statement.{statement}
 use Rattle.mmtp.proofs.unit.unit_at.Tie as tie
 
--- what the span tells
-spans : (c : tie.After-known-told) → let a = c .before .before .before .before .before .before .args in
+-- what it tells that the reader got on
+gets-on : (c : tie.Else2) → let a = c .before .before .before .before .args in
     (unitFits (drop (a .at) (a .m .now)) (a .kind) (a .wide) ≡ true)
-    × (c .before .span .given .0 .0 ≡ unitEnd (a .m .now) (a .at) (a .wide))
-spans c = span-to _ _ _ _ _ (sym (c .before .before .before .unit-span .ensures) ∙ c .before .span .given .1)
+    × (c .before .place-behind .result ≡ unitEnd (a .m .now) (a .at) (a .wide))
+gets-on c =
+    let p = c .before .place-behind in
+    let b = behind-on _ _ _ _ (rw (p .ensures) at (c .if2 .left)) in
+    (b .0, p .ensures ∙ b .1)
 
-room : (c : tie.After-known-told) → let a = c .before .before .before .before .before .before .args in
+room : (c : tie.Else2) → let a = c .before .before .before .before .args in
     a .at + lengthBytes (a .wide) + fieldBytes (a .kind) ≤ length (a .m .now)
 room c =
-    let a = c .before .before .before .before .before .before .args in
-    let f = unit-fits _ _ _ (spans c .0) in
+    let a = c .before .before .before .before .args in
+    let f = unit-fits _ _ _ (gets-on c .0) in
     omega (arith, length-drop (a .at) (a .m .now))
 
 returns : tie.Need-returns
 unfolding unitAt
 returns c = rw (le-leb _ _ (c .if1 .taken))
 
-unit-span-requires : tie.Need-unit-span-requires
-unit-span-requires c κs = search needs
-
-enum-known-span : tie.Need-enum-known-span
-enum-known-span c = search needs
-
-enum-told : tie.Need-enum-told
-enum-told c = search needs
+place-behind-requires : tie.Need-place-behind-requires
+place-behind-requires c κs = search needs
 
 returns-2 : tie.Need-returns-2
 unfolding unitAt
 returns-2 c =
-    let u = span-cut _ _ _ _ (sym (c .before .before .unit-span .ensures) ∙ c .enum-told .given .1) in
-    rw (lt-leb _ _ (c .before .before .before .if1 .left), u)
+    let u = behind-stays _ _ _ _ (rw (c .before .place-behind .ensures) at (c .if2 .taken)) in
+    rw (lt-leb _ _ (c .before .before .if1 .left), u)
 
 length-bytes-requires : tie.Need-length-bytes-requires
 length-bytes-requires c κs = search needs
@@ -61,9 +58,9 @@ returns-3 : tie.Need-returns-3
 unfolding unitAt dataUnit
 returns-3 c =
     let d = c .before .before .before in
-    let e = spans d in
+    let e = gets-on d in
     rw (
-      lt-leb _ _ (d .before .before .before .before .if1 .left),
+      lt-leb _ _ (d .before .before .if1 .left),
       e .0,
       e .1,
       c .before .fields-at .ensures,
@@ -76,9 +73,7 @@ unit-at-spec =
     tie.close
     (tie.spec
     returns
-    unit-span-requires
-    enum-known-span
-    enum-told
+    place-behind-requires
     returns-2
     length-bytes-requires
     add-from
