@@ -77,6 +77,12 @@ slots =
 abbrev torn : List (ℕ × Slot)
 torn = (1, slot 0 23 (first ++ take 1 alone)) ∷ (3, slot 0 23 (last 7)) ∷ []
 
+-- packets noted 50, 51 and 52: an unknown header type, version 1, and A with a unit that runs over the end
+abbrev bad : List (ℕ × Slot)
+bad =
+    (1, slot 0 53 ((0x7f ∷ 3 ∷ 0 ∷ 3 ∷ 0x00 ∷ 0x20 ∷ 0x99 ∷ [])
+    ++ ((0x7f ∷ 3 ∷ 0 ∷ 19 ∷ 0x00 ∷ 0x20 ∷ 0x61 ∷ 0x40 ∷ replicate 15 0) ++ packet 17 9 0x01 0 (0xb1 ∷ 0xb2 ∷ [])))) ∷ []
+
 abbrev without : ℕ → ℕ → Bool
 without n k = not (eqb n k)
 
@@ -117,6 +123,8 @@ Examples =
     × (contents (intactUnits (without 1) (carriedUnits config slots)) ≡ [])
     -- two notes of one slot: the held byte does not go on in it, nor packet_id 18's psn in its packet
     × (account config (intact torn) ≡ note 42 0 ∷ note 60 18 ∷ [])
+    -- damage inside a slot is noted; only 52 has a packet_id
+    × (account config (intact bad) ≡ note 50 0 ∷ note 51 0 ∷ note 52 17 ∷ [])
 
 pub examples : Examples
 unfolding be goodFirst total complete tooLong marked cutBy cut endFrom lastPointer sound endWithin endBeyond heldTotal heldEnd
@@ -125,4 +133,4 @@ unfolding be goodFirst total complete tooLong marked cutBy cut endFrom lastPoint
     headRead lookedUp bodyRead indicatorOf fragmentTypeOf mpuOf signallingOf parsedOf counterFits aggregationFits unitsFit tested
     payloadOf piecesOf fieldBytes fieldsOf pieceOf singleFits agrees nextPsn heard gap unheard interrupted begun counterFollows
     grown extended followed acted joinOf notesOf step openUnit sentAfter sent readOf events account inputs rowInputs carriedUnits
-examples = (refl, refl, refl, refl, refl, refl, refl, refl, refl)
+examples = (refl, refl, refl, refl, refl, refl, refl, refl, refl, refl)

@@ -63,6 +63,18 @@ Examples =
     × (note 0 (mpuBytes 21 0x29 0 (0 ∷ 13 ∷ replicate 13 0)) ≡ 52)
     -- a length that differs from what follows
     × (note 0 (mpuBytes 21 0x2A 1 (replicate 14 0)) ≡ 52)
+    -- other payload types and fragment types
+    × (note 1 (0 ∷ 0 ∷ []) ≡ 52)
+    × (note 3 (0 ∷ 0 ∷ []) ≡ 52)
+    × (note 0 (mpuBytes 6 0x30 0 []) ≡ 52)
+    -- short fields, of kind 2, of kind 3 and of signalling
+    × (note 0 (mpuBytes 19 0x28 0 (replicate 13 0)) ≡ 52)
+    × (note 0 (mpuBytes 9 0x20 0 (replicate 3 0)) ≡ 52)
+    × (note 2 (0 ∷ []) ≡ 52)
+    -- A with FI 10
+    × (note 2 (0x81 ∷ 1 ∷ 0 ∷ 0 ∷ []) ≡ 52)
+    -- with H the length of an aggregated unit has 32 bits
+    × (aggregate (0 ∷ 0 ∷ 0 ∷ 1 ∷ 7 ∷ []) 4 true ≡ record { pieces = message (7 ∷ []) ∷ []; fits = true })
     -- FI 01 and FI 10 with counter 0, FI 11 with counter 1
     × (note 2 (0x40 ∷ 0 ∷ []) ≡ 52)
     × (note 2 (0x80 ∷ 0 ∷ []) ≡ 52)
@@ -72,4 +84,5 @@ pub examples : Examples
 unfolding payloadOf piecesOf tested parsedOf mpuOf signallingOf be fragmentTypeOf counterFits indicatorOf aggregationFits unitsFit
     singleFits fieldBytes fieldsOf pieceOf lengthBytes unitFits unitThen aggregateBy aggregate aggregateFits
     headerOf plain payloadStart fixedBytes extensionBytes extensionLength lookupOf firstFrom bodyRead lookedUp headRead readingOf
-examples = (refl, refl, refl, refl, refl, refl, refl, refl, refl, refl, refl, refl)
+examples =
+    (refl, refl, refl, refl, refl, refl, refl, refl, refl, refl, refl, refl, refl, refl, refl, refl, refl, refl, refl, refl)

@@ -1,4 +1,4 @@
--- The notes on joining: document 01's number for each. No other definition writes these numbers.
+-- The notes on joining: document 01's number for each. Every definition that gives such a note cites this one.
 use Prim.Native.Nat.{ℕ}
 use Rattle.reassembly.specs.declared.note.JoinNote.{JoinNote}
 use Rattle.reassembly.specs.declared.note.JoinNote.the-variants.{Gap, Interrupted, Headless, Apart, AboveLimit}

@@ -64,23 +64,66 @@ pub specimens : Specimens
 unfolding nextPsn heard gap unheard agrees interrupted begun counterFollows grown extended followed acted joinOf notesOf seen
 specimens = (refl, refl, refl)
 
+-- the piece, of this kind, movie fragment, sample and item
+abbrev with-fields : ℕ → ℕ → ℕ → ℕ → Piece → Piece
+with-fields k movie sample item p =
+    record {
+      unit = record {
+        «packet_id» = 0;
+        kind = k;
+        psn = p .unit .psn;
+        mpu = p .unit .mpu;
+        fields = record { «movie_fragment» = movie; sample = sample; offset = 0; priority = 0; dependency = 0; item = item };
+      };
+      indicator = p .indicator;
+      counter = p .counter;
+      len = p .len;
+    }
+
+abbrev timed : ℕ → ℕ → Piece → Piece
+timed movie sample p = with-fields 2 movie sample 0 p
+
+abbrev of-item : ℕ → Piece → Piece
+of-item item p = with-fields 3 0 0 item p
+
+-- the first piece is stored, the second is noted 63, and the packet_id waits
+abbrev Apart : Piece → Piece → Type 0
+Apart a b = seen 100 unheard (a ∷ b ∷ piece 7 Last 0 ∷ []) ≡ quiet (Store 0) ∷ noted 63 ∷ quiet Nothing ∷ []
+
+-- a packet_id with a unit open, whose last psn was 5
+abbrev open-unit : Channel
+open-unit = joinOf unheard (piece 5 First 2) 100 .channel
+
 abbrev pub Examples : Type 0
 Examples =
     -- the psn wraps inside a unit
     (seen 100 unheard (piece 4294967295 First 1 ∷ piece 0 Last 0 ∷ []) ≡ quiet (Store 0) ∷ quiet (Complete 10) ∷ [])
     -- FI 11 after a counter of 255: 63, though the psn follows
-    × (seen 100 unheard (piece 5 First 255 ∷ piece 6 Last 0 ∷ []) ≡ quiet (Store 0) ∷ noted 63 ∷ [])
-    -- another MPU number: 63
-    × (seen 100 unheard (piece 5 First 1 ∷ piece-of 9 6 Last 0 ∷ []) ≡ quiet (Store 0) ∷ noted 63 ∷ [])
+    × Apart (piece 5 First 255) (piece 6 Last 0)
+    -- "must agree in kind, MPU number, movie fragment and sample (or item)", also at FI 10
+    × Apart (piece 5 First 2) (with-fields 1 0 0 0 (piece 6 Middle 1))
+    × Apart (piece 5 First 1) (piece-of 9 6 Last 0)
+    × Apart (timed 3 4 (piece 5 First 2)) (timed 8 4 (piece 6 Middle 1))
+    × Apart (timed 3 4 (piece 5 First 2)) (timed 3 8 (piece 6 Middle 1))
+    × Apart (of-item 3 (piece 5 First 1)) (of-item 8 (piece 6 Last 0))
     -- counters that agree across a gap join nothing
     × (seen 100 unheard (piece 5 First 2 ∷ piece 7 Middle 1 ∷ piece 8 Last 0 ∷ []) ≡ quiet (Store 0) ∷ noted 60 ∷ quiet Nothing ∷ [])
     -- FI 10 while unheard is silent, and the packet_id is heard from then on
     × (seen 100 unheard (piece 5 Middle 2 ∷ piece 7 Whole 0 ∷ []) ≡ quiet Nothing ∷ record { notes = 60 ∷ []; action = GiveWhole } ∷ [])
-    -- FI 10 while idle: 62; FI 01 while open: 61; above R: 64, also after 61
-    × (seen 100 unheard (piece 5 Whole 0 ∷ piece 6 Middle 2 ∷ []) ≡ quiet GiveWhole ∷ noted 62 ∷ [])
-    × (seen 15 unheard (piece 5 First 2 ∷ piece 6 Middle 1 ∷ []) ≡ quiet (Store 0) ∷ noted 64 ∷ [])
+    -- FI 10 or 11 while idle: 62, now waiting
+    × (seen 100 unheard (piece 5 Whole 0 ∷ piece 6 Middle 2 ∷ piece 7 Middle 1 ∷ []) ≡ quiet GiveWhole ∷ noted 62 ∷ quiet Nothing ∷ [])
+    × (seen 100 unheard (piece 5 Whole 0 ∷ piece 6 Last 0 ∷ piece 7 Last 0 ∷ []) ≡ quiet GiveWhole ∷ noted 62 ∷ quiet Nothing ∷ [])
+    -- FI 00 or 01 while open: 61, dropped
+    × (seen 100 unheard (piece 5 First 2 ∷ piece 6 Whole 0 ∷ piece 7 Middle 1 ∷ [])
+    ≡ quiet (Store 0) ∷ record { notes = 61 ∷ []; action = GiveWhole } ∷ noted 62 ∷ [])
     × (seen 100 unheard (piece 5 First 2 ∷ piece 6 First 2 ∷ []) ≡ quiet (Store 0) ∷ record { notes = 61 ∷ []; action = Store 0 } ∷ [])
+    -- "Joined bytes above R, also at FI 01: 64, now waiting"
+    × (seen 15 unheard (piece 5 First 2 ∷ piece 6 Middle 1 ∷ piece 7 Last 0 ∷ []) ≡ quiet (Store 0) ∷ noted 64 ∷ quiet Nothing ∷ [])
+    × (seen 9 unheard (piece 5 First 1 ∷ piece 6 Last 0 ∷ []) ≡ noted 64 ∷ quiet Nothing ∷ [])
+    -- a packet with two notes: 60 or 61, then 64
+    × (seen 9 unheard (piece 5 Whole 0 ∷ piece 7 First 1 ∷ []) ≡ quiet GiveWhole ∷ record { notes = 60 ∷ 64 ∷ []; action = Nothing } ∷ [])
+    × (notesOf (joinOf open-unit (piece 6 First 1) 9) ≡ 61 ∷ 64 ∷ [])
 
 pub examples : Examples
 unfolding nextPsn heard gap unheard agrees interrupted begun counterFollows grown extended followed acted joinOf notesOf seen
-examples = (refl, refl, refl, refl, refl, refl, refl, refl)
+examples = (refl, refl, refl, refl, refl, refl, refl, refl, refl, refl, refl, refl, refl, refl, refl, refl, refl)

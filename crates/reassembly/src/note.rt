@@ -7,7 +7,7 @@ pub enum JoinNote {
     Gap,
     // FI 00 or 01 comes while a unit is open, which is dropped.
     Interrupted,
-    // FI 10 or 11 comes while no unit is open.
+    // FI 10 or 11 comes while idle: its unit has no first piece.
     Headless,
     // FI 10 or 11 does not agree with the open unit.
     Apart,

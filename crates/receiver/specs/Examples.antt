@@ -59,10 +59,12 @@ Slots =
     × (slotRefusal (due 119) 21432 4 ≡ 22) × (slotRefusal (due 119) 21433 3 ≡ 22) × (slotRefusal (due 119) 21433 4 ≡ 0)
     × (slotOf (due 119) [] [] (1 ∷ []) ≡ (refused 22 (due 119), [])) × (lostSlotOf (due 120) 0 0 ≡ refused 20 (due 120))
     × (wrongLength 1870 1869 ≡ true) × (wrongLength 1870 1870 ≡ false)
+    -- 23: a byte for a dummy slot
+    × (slotOf (due 119) (replicate 21433 0) (replicate 4 0) (1 ∷ []) .0 ≡ refused 23 (due 119))
 
 slots : Slots
 unfolding slotRefusal shortBy slotOf lostSlotOf wrongLength freshState
-slots = (refl, refl, refl, refl, refl, refl, refl, refl, refl)
+slots = (refl, refl, refl, refl, refl, refl, refl, refl, refl, refl)
 
 abbrev Nexts : Type 0
 Nexts =

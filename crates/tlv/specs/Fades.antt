@@ -1,4 +1,5 @@
--- Examples of lost slots: a packet whose header is split over two of three slots, and one that goes through all three.
+-- Examples of lost and noted slots: a packet whose header is split over two of three slots, one that goes through all three, and
+-- slots with notes 41, 42 and 43.
 use Prim.Native.Nat.{ℕ}
 use mathlib.Core.Path.{_≡_, refl}
 use mathlib.Core.Bool.{not}
@@ -8,7 +9,7 @@ use Rattle.wire.specs.Field.{be}
 use Rattle.tlv.specs.Packet.{goodFirst, total, complete, tooLong, marked, cutBy, cut}
 use Rattle.tlv.specs.Slot.{none, endFrom, lastPointer, sound}
 use Rattle.tlv.specs.Held.{endWithin, endBeyond, heldTotal, heldEnd, continuationOf}
-use Rattle.tlv.specs.Run.{Slot, note, packetOf, searching, Arrival}
+use Rattle.tlv.specs.Run.{Slot, note, packetOf, searching, held, Arrival}
 use Rattle.tlv.specs.Run.{kept, readFrom, finished, resumed, arrived, step, run, intact, damaged}
 use Rattle.tlv.specs.Row.{tagged, allBytes, row, packetsBy, rowPackets}
 
@@ -41,6 +42,20 @@ through =
     ∷ (3, record { top = 3; last = 7; bytes = 0x55 ∷ 0x66 ∷ 0x77 ∷ nullPacket })
     ∷ []
 
+-- slots that are noted, each with a packet behind it that is read from its top pointer: an unsound slot; a slot without a top pointer,
+-- which nothing held fits; a tail of 16,385 bytes
+abbrev next : ℕ × Slot
+next = (2, record { top = 3; last = 7; bytes = 0x55 ∷ 0x66 ∷ 0x77 ∷ nullPacket })
+
+abbrev unsound : ℕ × Slot
+unsound = (1, record { top = 0; last = 3; bytes = nullPacket })
+
+abbrev unfitting : ℕ × Slot
+unfitting = (1, record { top = none; last = none; bytes = 0 ∷ 4 ∷ 0x44 ∷ [] })
+
+abbrev tailed : ℕ × Slot
+tailed = (1, record { top = 0; last = 4; bytes = nullPacket ++ 0x7f ∷ 3 ∷ 0x3f ∷ 0xfd ∷ [] })
+
 -- slot n is lost
 abbrev without : ℕ → List (ℕ × Slot) → List (Arrival ℕ)
 without n xs = damaged (λ (k : ℕ). not (eqb k n)) xs
@@ -67,10 +82,17 @@ Fades =
     × (run searching (without 2 through) ≡ note 40 ∷ packetOf (3 ∷ []) nullPacket ∷ [])
     × (rowPackets through
     ≡ (tagged 1 (0x7f ∷ 3 ∷ []) ++ tagged 2 (0 ∷ 4 ∷ 0x44 ∷ []) ++ tagged 3 (0x55 ∷ 0x66 ∷ 0x77 ∷ [])) ∷ tagged 3 nullPacket ∷ [])
+    -- "an unsound one gives 41, makes it searching, and nothing is read from it", also while searching
+    × (run searching (intact (unsound ∷ next ∷ [])) ≡ note 41 ∷ packetOf (2 ∷ []) nullPacket ∷ [])
+    × (run (held [] []) (intact (unsound ∷ next ∷ [])) ≡ note 41 ∷ packetOf (2 ∷ []) nullPacket ∷ [])
+    -- 42, and "a drop with t = 0xFFFF, leaves it searching"
+    × (run (held [] []) (intact (unfitting ∷ next ∷ [])) ≡ note 42 ∷ packetOf (2 ∷ []) nullPacket ∷ [])
+    -- a tail "whose known total is above 16,384 gives 43", behind the slot's packets, and leaves it searching
+    × (run searching (intact (tailed ∷ next ∷ [])) ≡ packetOf (1 ∷ []) nullPacket ∷ note 43 ∷ packetOf (2 ∷ []) nullPacket ∷ [])
 
 pub fades : Fades
 fades =
     unfold be goodFirst total complete tooLong marked cutBy cut in
     unfold endFrom lastPointer sound endWithin endBeyond heldTotal heldEnd continuationOf in
     unfold kept readFrom finished resumed arrived step run allBytes row packetsBy rowPackets in
-    (refl, refl, refl, refl, refl, refl, refl, refl)
+    (refl, refl, refl, refl, refl, refl, refl, refl, refl, refl, refl, refl)

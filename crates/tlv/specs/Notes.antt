@@ -1,4 +1,4 @@
--- The notes on slots: document 01's number for each. No other definition writes these numbers.
+-- The notes on slots: document 01's number for each. Every definition that gives such a note cites this one.
 use Prim.Native.Nat.{ℕ}
 use mathlib.Core.Path.{_≡_, refl}
 use mathlib.Core.Bool.{false}

@@ -7,7 +7,7 @@ pub enum SlotNote {
     Lost,
     // The slot is unsound.
     Unsound,
-    // The held packet does not end where the slot's pointers say.
+    // The end of what is held, perhaps nothing, is not where the slot's pointers say.
     Misfit,
     // A packet's total is above 16,384.
     TooLong,

@@ -1,4 +1,4 @@
--- Document 01's starred specimens of the control block, one equation for each.
+-- Document 01's starred specimens of the control block, one equation for each, and further examples.
 use Prim.Native.Nat.{ℕ}
 use mathlib.Core.Path.{_≡_}
 use mathlib.Core.List.{List, [], _∷_, _++_}
@@ -21,3 +21,28 @@ Specimens =
     × (decodeOf (blockOf 105) 0x0102 .refusal ≡ 12)
     -- and with 120 slots the block is accepted
     × (decodeOf (blockOf 110) 0x0102 .refusal ≡ 0)
+
+-- a block with these eight modes; relative streams 0 and 1 are of type TLV with ids 0x0102 and 0x0304, and 0 has every slot
+abbrev withModes : List ℕ → List ℕ
+withModes ms = (0 ∷ ms) ++ (2 ∷ 2 ∷ replicate 666 0) ++ (1 ∷ 2 ∷ 3 ∷ 4 ∷ replicate 481 0)
+
+abbrev unusedModes : List ℕ
+unusedModes = 0xff ∷ 0 ∷ 0 ∷ 0xff ∷ 0 ∷ 0 ∷ 0xff ∷ 0 ∷ 0 ∷ []
+
+-- all five modulations, with rates 11, 10, 10, 2 and 1
+abbrev falling : List ℕ
+falling = 0x5b ∷ 20 ∷ 0 ∷ 0x4a ∷ 5 ∷ 7 ∷ 0x3a ∷ 30 ∷ 0 ∷ 0x22 ∷ 25 ∷ 0 ∷ 0x11 ∷ 40 ∷ 0 ∷ unusedModes
+
+-- the first two in the other order
+abbrev rising : List ℕ
+rising = 0x4a ∷ 5 ∷ 7 ∷ 0x5b ∷ 20 ∷ 0 ∷ 0x3a ∷ 30 ∷ 0 ∷ 0x22 ∷ 25 ∷ 0 ∷ 0x11 ∷ 40 ∷ 0 ∷ unusedModes
+
+abbrev pub Examples : Type 0
+Examples =
+    -- "in falling order of modulation, then of rate", the back-off of a used mode free
+    (decodeOf (withModes falling) 0x0102 .refusal ≡ 0)
+    × (decodeOf (withModes rising) 0x0102 .refusal ≡ 12)
+    -- "13 not exactly one relative stream of type 2 with the id"
+    × (decodeOf (withModes falling) 0x0103 .refusal ≡ 13)
+    -- "14 that stream has no live slot"
+    × (decodeOf (withModes falling) 0x0304 .refusal ≡ 14)
