@@ -5,6 +5,7 @@ use mathlib.Core.List.{List, [], _∷_, map}
 use native.Mathlib.Omega.{arith}
 use lib.ListN.{length, getD, drop, length-map}
 use lib.Seq.{drop-cons}
+use Rattle.tmcc.specs.declared.layout.Layout.{Layout}
 use Rattle.tmcc.specs.Layout.{blankLayout, layoutOf}
 use Rattle.tmcc.specs.Block.{ownStream}
 use Rattle.tmcc.proofs.Laws.{accepted-layout, layout-sizes, layout-most}
@@ -34,15 +35,18 @@ module _ (b : List ℕ) (own : ℕ) where
       (length-right _ _ (omega (arith, layout-most b own s h)) here, slots-fit (suc s) ds (omega arith) rest)
 
 module _ (stream : ℕ) where
+  frame-lengths : (f : Frame) → GoodFrame stream f
+      → map length (f .slots) ≡ layoutOf (f .block) (ownStream (f .block) stream) .lengths
+  frame-lengths f g = g .lengths ∙ ap (λ (l : Layout). l .lengths) (accepted-layout (f .block) stream (g .block))
+
   frame-whole : (f : Frame) → GoodFrame stream f → length (f .slots) ≡ 120
   frame-whole f g =
-      let e = accepted-layout (f .block) stream (g .block) in
-      sym (length-map (f .slots) length) ∙ ap length (rw e at (g .lengths)) ∙ layout-sizes (f .block) (ownStream (f .block) stream) .1
+      sym (length-map (f .slots) length) ∙ ap length (frame-lengths f g) ∙ layout-sizes (f .block) (ownStream (f .block) stream) .1
 
   frame-fits : (f : Frame) → GoodFrame stream f → SlotsFit (layoutIn stream f) 0 (f .slots)
   frame-fits f g =
-      let e = accepted-layout (f .block) stream (g .block) in
-      rw e (slots-fit (f .block) (ownStream (f .block) stream) 0 (f .slots) (omega (arith, frame-whole f g)) (rw e at (g .lengths)))
+      rw (accepted-layout (f .block) stream (g .block))
+      (slots-fit (f .block) (ownStream (f .block) stream) 0 (f .slots) (omega (arith, frame-whole f g)) (frame-lengths f g))
 
   frames-fit : (fs : List Frame) → AllGood stream fs → FramesFit stream fs
   frames-fit [] h = tt

@@ -340,7 +340,7 @@ with-packable u i w =
     record {
       kinds = w .kinds;
       ids = w .ids;
-      psns = mod-lt (u .psn .0 + i) (omega arith);
+      psns = mod-lt _ (omega arith);
       mpus = w .mpus;
       movie-fragments = w .movie-fragments;
       samples = w .samples;

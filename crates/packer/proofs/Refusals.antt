@@ -103,12 +103,12 @@ pub record Accepted (m kind n len room cid : ℕ) : Type 0 where
 pub not-refused : (m kind n len room cid : ℕ) → refusalOf m kind n len room cid ≡ 0 → Accepted m kind n len room cid
 unfolding refusalOf
 not-refused m kind n len room cid e =
-    let a = chose-not (eqb m 0) 70 _ 0 e (λ q. omega arith) in
-    let b = chose-not (ltb 1400 m) 70 _ 0 (a .1) (λ q. omega arith) in
-    let c = chose-not (ltb 4 kind) 71 _ 0 (b .1) (λ q. omega arith) in
-    let d = chose-not (ltb maxPieces n) 72 _ 0 (c .1) (λ q. omega arith) in
-    let f = chose-not (ltb room len) 73 _ 0 (d .1) (λ q. omega arith) in
-    let g = chose-not (ltb 4095 cid) 74 _ 0 (f .1) (λ q. omega arith) in
+    let a = chose-not (eqb m 0) _ _ 0 e (λ q. omega arith) in
+    let b = chose-not (ltb 1400 m) _ _ 0 (a .1) (λ q. omega arith) in
+    let c = chose-not (ltb 4 kind) _ _ 0 (b .1) (λ q. omega arith) in
+    let d = chose-not (ltb maxPieces n) _ _ 0 (c .1) (λ q. omega arith) in
+    let f = chose-not (ltb room len) _ _ 0 (d .1) (λ q. omega arith) in
+    let g = chose-not (ltb 4095 cid) _ _ 0 (f .1) (λ q. omega arith) in
     record {
       positive = omega (arith, eqb-false m 0 (a .0));
       short = ltb-false _ _ (b .0);

@@ -65,6 +65,9 @@ pub fn lost_frame(st: State) -> Called
             state: st,
         };
     }
-    let state = after_loss(st);
-    Called { refusal: 0, state }
+    let lost = after_loss(st);
+    Called {
+        refusal: 0,
+        state: lost,
+    }
 }

@@ -111,15 +111,15 @@ pub fn lost_slot(st: State, packet: &[u8], collecting: &[u8]) -> Called
         return Called { refusal, state: st };
     }
     let frame = st.frame;
-    let at = frame.at;
+    let due = frame.at;
     let layout = frame.layout;
-    let next = count(st);
-    if !layout.own[at] {
+    let counted = count(st);
+    if !layout.own[due] {
         return Called {
             refusal: 0,
-            state: next,
+            state: counted,
         };
     }
-    let state = after_loss(next);
+    let state = after_loss(counted);
     Called { refusal: 0, state }
 }

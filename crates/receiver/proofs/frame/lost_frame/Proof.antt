@@ -1,5 +1,6 @@
 -- Why lost_frame meets its contract: each return is one case of the definition.
-use mathlib.Core.Path.{sym, _∙_}
+use mathlib.Core.Path.{sym, ap, _∙_}
+use Rattle.receiver.specs.State.{accepted}
 use Rattle.receiver.specs.Frame.{lost-frame-busy, lost-frame-accepted}
 use borrow.Author.Needs.{needs}
 use Rattle.receiver.proofs.frame.lost_frame.Statement.{statement}
@@ -16,8 +17,8 @@ after-loss-requires c κs = search needs
 
 returns-2 : tie.Need-returns-2
 returns-2 c =
-    rw (c .after-loss .ensures)
-    (sym (lost-frame-accepted _ (sym (c .before .before .is-busy .ensures) ∙ c .before .if1 .left)))
+    ap accepted (c .after-loss .ensures)
+    ∙ sym (lost-frame-accepted _ (sym (c .before .before .is-busy .ensures) ∙ c .before .if1 .left))
 
 pub lost-frame-spec : {M : Type 1} → statement M
 lost-frame-spec = tie.close (tie.spec is-busy-requires returns after-loss-requires returns-2)

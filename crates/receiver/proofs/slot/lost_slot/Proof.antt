@@ -1,6 +1,8 @@
 -- Why lost_slot meets its contract: each return is one case of the definition.
-use mathlib.Core.Path.{sym, _∙_}
+use mathlib.Core.Path.{sym, ap, _∙_}
 use native.Mathlib.Omega.{arith}
+use Rattle.receiver.specs.State.{accepted}
+use Rattle.receiver.specs.Frame.{lossOf}
 use Rattle.receiver.specs.Slot.{lost-refused, lost-not-own, lost-own, ready}
 use borrow.Author.Tests.{not-true, not-false}
 use borrow.Author.Needs.{needs}
@@ -30,7 +32,7 @@ returns-2 : tie.Need-returns-2
 returns-2 c =
     let d = c .before .before .before .before .before in
     let z = sym (d .before .refusal .ensures) ∙ d .if1 .left in
-    rw (c .before .before .count .ensures) (sym (lost-not-own _ _ _ z (not-true _ (c .if2 .taken))))
+    ap accepted (c .before .before .count .ensures) ∙ sym (lost-not-own _ _ _ z (not-true _ (c .if2 .taken)))
 
 after-loss-requires : tie.Need-after-loss-requires
 after-loss-requires c κs = search needs
@@ -39,8 +41,8 @@ returns-3 : tie.Need-returns-3
 returns-3 c =
     let d = c .before .before .before .before .before .before in
     let z = sym (d .before .refusal .ensures) ∙ d .if1 .left in
-    rw (c .after-loss .ensures, c .before .before .before .count .ensures)
-    (sym (lost-own _ _ _ z (not-false _ (c .before .if2 .left))))
+    ap accepted (c .after-loss .ensures ∙ ap lossOf (c .before .before .before .count .ensures))
+    ∙ sym (lost-own _ _ _ z (not-false _ (c .before .if2 .left)))
 
 pub lost-slot-spec : {M : Type 1} → statement M
 lost-slot-spec =
