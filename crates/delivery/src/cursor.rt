@@ -89,7 +89,7 @@ fn advance_slot(c: Cursor, memory: &[u8]) -> Advanced
     }
 }
 
-pub fn advance(c: Cursor, memory: &[u8]) -> Advanced
+fn advance(c: Cursor, memory: &[u8]) -> Advanced
     ensures { λ r. ⌜ r ≡ advancedOf c (now (memory .entry)) ⌝ }
 {
     if c.note != 0 {

@@ -46,7 +46,7 @@ pub fn frame(st: State, block: &[u8]) -> Called
 }
 
 // An own live slot is lost, and next is owed.
-pub fn after_loss(st: State) -> State
+pub(crate) fn after_loss(st: State) -> State
     ensures { λ r. ⌜ r ≡ lossOf st ⌝ }
 {
     let held = st.held;

@@ -20,7 +20,7 @@ use intake::held::Held;
 use reassembly::channel::Channel;
 
 // A tail is held.
-pub fn hold(start: usize, len: usize) -> Held
+fn hold(start: usize, len: usize) -> Held
     ensures { λ r. ⌜ r ≡ holding start len ⌝ }
 {
     Held {
