@@ -9,6 +9,7 @@ use native.Mathlib.Omega.{arith}
 use lib.ListN.{length, take, drop}
 use lib.Dec.{eqb, ltb}
 use borrow.Author.Tests.{lt-ltb, le-ltb, eq-eqb, ne-eqb, ltb-false, eqb-true}
+use Rattle.wire.specs.Choice.{either}
 use Rattle.tmcc.specs.Count.{allBelow}
 use Rattle.tmcc.specs.Mode.{dataBytes}
 use Rattle.tlv.specs.Packet.{cut}
@@ -106,10 +107,6 @@ accepted run l s n e =
     record { packets = p .0; listed = q .0; within = ltb-false _ _ (r .0); fits = eqb-true _ _ (t .0) }
 
 -- a refusal is 75 to 78
-either : (P : ℕ → Type 0) (t : Bool) {a b : ℕ} → P a → P b → P (cond t a b)
-either P true h k = h
-either P false h k = k
-
 pub refusal-bounds : (run : List ℕ) (l s n : ℕ) → let r = refusalOf run l s n in (r ≡ 0 → ⊥) → (75 ≤ r) × (r ≤ 78)
 unfolding refusalOf
 refusal-bounds run l s n =

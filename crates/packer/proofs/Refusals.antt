@@ -9,6 +9,7 @@ use borrow.Author.Tests.{eq-eqb, ne-eqb, lt-ltb, le-ltb, eqb-true, eqb-false, lt
 use lib.ListN.{length, take}
 use lib.Dec.{eqb, ltb}
 use lib.Seq.{take-length, take-append-seam}
+use Rattle.wire.specs.Choice.{either}
 use Rattle.wire.specs.Memory.{pasted}
 use Rattle.mmtp.specs.Cases.{chose-not}
 use Rattle.reassembly.specs.declared.unit.Unit.{Unit}
@@ -119,10 +120,6 @@ not-refused m kind n len room cid e =
     }
 
 -- a refusal is 70 to 74
-either : (P : ℕ → Type 0) (t : Bool) {a b : ℕ} → P a → P b → P (cond t a b)
-either P true h k = h
-either P false h k = k
-
 refusal-bounds : (m kind n len room cid : ℕ) → let r = refusalOf m kind n len room cid in (r ≡ 0 → ⊥) → (70 ≤ r) × (r ≤ 74)
 unfolding refusalOf
 refusal-bounds m kind n len room cid =

@@ -63,7 +63,7 @@ Slots =
     × (slotOf (due 119) (replicate 21433 0) (replicate 4 0) (1 ∷ []) .0 ≡ refused 23 (due 119))
 
 slots : Slots
-unfolding slotRefusal shortBy slotOf lostSlotOf wrongLength freshState
+unfolding slotRefusal shortBy slotOf lostSlotOf wrongLength freshState blankLayout
 slots = (refl, refl, refl, refl, refl, refl, refl, refl, refl, refl)
 
 abbrev Nexts : Type 0

@@ -8,6 +8,7 @@ use native.Mathlib.Omega.{arith}
 use lib.ListN.{length, getD}
 use lib.Dec.{eqb, ltb}
 use borrow.Author.Tests.{eqb-true, eqb-false, ltb-true, ltb-false}
+use Rattle.wire.specs.Choice.{either}
 use Rattle.tmcc.specs.declared.block.Decoded.{Decoded}
 use Rattle.tmcc.specs.declared.layout.Pointers.{Pointers}
 use Rattle.tmcc.specs.Count.{allBelow, countBelow, getD-tab, length-tab}
@@ -44,17 +45,13 @@ accepted-layout b id e = ap (λ (d : Decoded). d .layout) (accepts b id (accepte
 abbrev Numbered : Decoded → Type 0
 Numbered d = (d .refusal ≡ 0 → ⊥) → (10 ≤ d .refusal) × (d .refusal ≤ 14)
 
-either : (t : Bool) (x y : Decoded) → Numbered x → Numbered y → Numbered (cond t x y)
-either true x y f g = f
-either false x y f g = g
-
 pub refusal-number : (b : List ℕ) (id : ℕ) → Numbered (decodeOf b id)
 unfolding decodeOf
 refusal-number b id =
-    either (eqb (length b) 1178) _ _
-    (either (modesGood b) _ _
-    (either (eqb (countBelow (chosen b id) 16) 1) _ _
-    (either (eqb (countBelow (ownSlot b (ownStream b id)) 120) 0) _ _ (λ z. (omega arith, omega arith)) (λ z. absurd (z refl)))
+    either Numbered (eqb (length b) 1178)
+    (either Numbered (modesGood b)
+    (either Numbered (eqb (countBelow (chosen b id) 16) 1)
+    (either Numbered (eqb (countBelow (ownSlot b (ownStream b id)) 120) 0) (λ z. (omega arith, omega arith)) (λ z. absurd (z refl)))
     (λ z. (omega arith, omega arith)))
     (λ z. (omega arith, omega arith)))
     (λ z. (omega arith, omega arith))
