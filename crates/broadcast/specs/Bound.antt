@@ -1,5 +1,5 @@
--- How often next is called after a slot or a lost frame: at most 42,869 times. Packet memory has 16,384 + 5,049 bytes; a slot
--- gives at most two notes and units for each of them, and two more, so 42,868; the last call says that nothing waits.
+-- How often next is called after a slot or a lost frame: at most 42,869 times. Of 16,384 held bytes and 5,049 of the slot, each
+-- brings at most two notes or units, and there are two more at most: 42,868. The last call says that nothing waits.
 use Prim.Native.Nat.{ℕ, _-_, _<_, _≤_}
 use mathlib.Core.List.{List, [], _∷_}
 use lib.ListN.{length}
@@ -10,8 +10,8 @@ use Rattle.broadcast.specs.Account.{events}
 use Rattle.broadcast.specs.SlotClaims.{Short}
 use Rattle.broadcast.specs.Calls.{frame, lost-frame, slot, lost-slot, next, Made, own, shows, added}
 
--- in the account: an own live slot, with as many held bytes as there is room for, gives at most 42,868 notes and units, and a
--- lost one gives at most one
+-- in the account: an own live slot, with at most 16,384 bytes held, gives at most 42,868 notes and units, and a lost one gives at
+-- most one
 abbrev pub SlotBound : Type 1
 SlotBound =
     (A : Type 0) (cfg : Config) (f : ℕ → Line (List A)) (tl : Slot-state A) → Short tl

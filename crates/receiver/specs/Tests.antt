@@ -1,4 +1,4 @@
--- Tests taken apart: an answer of 0 among refusals, and a choice of two that is false.
+-- Tests taken apart: an answer of 0 among refusals.
 use Prim.Native.Nat.{ℕ}
 use mathlib.Core.Path.{_≡_, refl}
 use mathlib.Core.Bool.{Bool, true, false, cond}

@@ -20,7 +20,7 @@ use Rattle.roundtrip.specs.Example.{config, units, gaps}
 abbrev pub slots : List Slot
 slots = slotsFrom (runOf config units gaps) 1870 0 13
 
--- their top and last pointers; slots 1 to 7 lie within the null packet of 16,384 bytes
+-- their top and last pointers; slots 1 to 7, counted from 0, lie within the null packet of 16,384 bytes
 abbrev pub pointers : List (ℕ × ℕ)
 pointers =
     (0, 26) ∷ repeated 7 ((0xFFFF, 0xFFFF) ∷ [])
@@ -38,7 +38,7 @@ block =
     -- relative streams 0 and 1 are of type TLV
     ++ (2 ∷ 2 ∷ replicate 126 0)
     ++ (pointerBytes pointers ++ replicate 220 0)
-    -- slots 0 to 64 are of relative stream 0, and 13 of them are live; the others are of relative stream 1
+    -- slots 0 to 64, counted from 0, are of relative stream 0, and 13 of them are live; the others are of relative stream 1
     ++ (replicate 32 0 ++ (0x01 ∷ replicate 27 0x11))
     -- the stream ids are 1 and 2
     ++ (0 ∷ 1 ∷ 0 ∷ 2 ∷ replicate 481 0)
