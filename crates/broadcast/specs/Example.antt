@@ -77,11 +77,13 @@ slots =
 abbrev torn : List (ℕ × Slot)
 torn = (1, slot 0 23 (first ++ take 1 alone)) ∷ (3, slot 0 23 (last 7)) ∷ []
 
--- packets noted 50, 51 and 52: an unknown header type, version 1, and A with a unit that runs over the end
+-- packets noted 50, 51 and 52: an unknown header type, version 1, and FI 11 with counter 1
 abbrev bad : List (ℕ × Slot)
-bad =
-    (1, slot 0 53 ((0x7f ∷ 3 ∷ 0 ∷ 3 ∷ 0x00 ∷ 0x20 ∷ 0x99 ∷ [])
-    ++ ((0x7f ∷ 3 ∷ 0 ∷ 19 ∷ 0x00 ∷ 0x20 ∷ 0x61 ∷ 0x40 ∷ replicate 15 0) ++ packet 17 9 0x01 0 (0xb1 ∷ 0xb2 ∷ [])))) ∷ []
+bad = (
+  1,
+  slot 0 53 ((0x7f ∷ 3 ∷ 0 ∷ 3 ∷ 0x00 ∷ 0x20 ∷ 0x99 ∷ [])
+      ++ ((0x7f ∷ 3 ∷ 0 ∷ 19 ∷ 0x00 ∷ 0x20 ∷ 0x61 ∷ 0x40 ∷ replicate 15 0) ++ packet 17 9 0xc0 1 (0xb1 ∷ 0xb2 ∷ []))),
+) ∷ []
 
 abbrev without : ℕ → ℕ → Bool
 without n k = not (eqb n k)
