@@ -11,6 +11,7 @@ use Rattle.tmcc.specs.Block.{ownStream}
 use Rattle.tmcc.proofs.Laws.{accepted-layout, layout-sizes, layout-most}
 use Rattle.tlv.specs.Run.{searching}
 use Rattle.reassembly.specs.Run.{fresh}
+use Rattle.receiver.specs.Start.{startOf, started as fresh-start, accepts as start-accepts}
 use Rattle.receiver.specs.Slot.{length-right}
 use Rattle.broadcast.specs.Frames.{Frame, layoutIn}
 use Rattle.broadcast.specs.Demand3.{started}
@@ -53,7 +54,8 @@ module _ (stream : ℕ) where
   frames-fit (f ∷ fs) h = (h .0 .block, frame-whole f (h .0), frame-fits f (h .0), frames-fit fs (h .1))
 
 pub accepts : Accepts
-accepts cfg e fs g d p c hp hc =
+accepts cfg s fs g d p c hp hc =
+    let e : startOf cfg .refusal ≡ 0 = rw (fresh-start cfg (start-accepts cfg s)) in
     let w = frames-fit (cfg .stream) fs g in
     let at = start-at cfg p c e (omega arith) hc in
     record {

@@ -1,12 +1,12 @@
--- Good input is accepted: what start, the rules of the control block and the lengths of the slots let pass is read to its end, no
--- call is refused, and the reading shows the account.
+-- Good input is accepted: what the rules of start and of the control block and the lengths of the slots let pass is read to its end,
+-- no call is refused, and the reading shows the account.
 use Prim.Native.Nat.{ℕ, _*_, _≤_}
 use mathlib.Core.Path.{_≡_}
 use mathlib.Core.List.{List, [], _∷_, map}
 use lib.ListN.{length}
 use Rattle.tmcc.specs.Block.{decodeOf}
 use Rattle.reassembly.specs.declared.config.Config.{Config}
-use Rattle.receiver.specs.Start.{startOf}
+use Rattle.receiver.specs.Start.{Starts}
 use Rattle.broadcast.specs.Account.{account}
 use Rattle.broadcast.specs.Drains.{strip}
 use Rattle.broadcast.specs.Calls.{Made}
@@ -38,8 +38,9 @@ pub record Accepted (cfg : Config) (fs : List Frame) (d : Damage) (p c : List �
 
 abbrev pub Accepts : Type 0
 Accepts =
-    -- every accepted start, every list of good frames, whatever is lost of them
-    (cfg : Config) → startOf cfg .refusal ≡ 0 → (fs : List Frame) → AllGood (cfg .stream) fs → (d : Damage)
+    -- every start with 1 to 16 ids, none twice, a CID up to 4,095 and R from 1 to 1,048,576; every list of good frames, whatever is
+    -- lost of them
+    (cfg : Config) → Starts cfg → (fs : List Frame) → AllGood (cfg .stream) fs → (d : Damage)
     -- packet memory of at least 21,433 bytes and collecting memory of at least n × R, whatever they hold at first
     → (p c : List ℕ) → 21433 ≤ length p → cfg .watch .n * cfg .limit ≤ length c
     → Accepted cfg fs d p c

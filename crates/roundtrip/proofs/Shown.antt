@@ -45,6 +45,8 @@ use Rattle.broadcast.specs.Frames.{none, ownSlots, slotsFrom as frameSlots}
 use Rattle.broadcast.specs.Accepts.{GoodFrame}
 use Rattle.broadcast.specs.Broadcast.{repeated}
 use Rattle.broadcast.proofs.Accepts.{accepts}
+use Rattle.mmtp.specs.Watch.{lookupOf, firstFrom}
+use Rattle.receiver.specs.Start.{before, twiceBelow, twice, refusalOf, Starts, starts as start-keeps}
 use Rattle.roundtrip.specs.Sending.{allPackets, padded}
 use Rattle.roundtrip.specs.RoundTrip.{runOf}
 use Rattle.roundtrip.specs.Example.{config, units, gaps}
@@ -166,6 +168,10 @@ whole-frame : length (frame .slots) ≡ 120
 unfolding frame
 whole-frame = refl
 
+keeps : Starts config
+unfolding refusalOf twice twiceBelow before lookupOf firstFrom
+keeps = start-keeps config refl
+
 pub comes-back : ComesBack
 comes-back =
     let e = example .starts in
@@ -174,8 +180,8 @@ comes-back =
     record {
       good = good;
       own = own;
-      readable = λ p c hp hc. accepts config e frames (good, tt) none p c hp hc .readable;
+      readable = λ p c hp hc. accepts config keeps frames (good, tt) none p c hp hc .readable;
       shows = λ p c hp hc xs h.
-          let r = accepts config e frames (good, tt) none p c hp hc .none-refused xs h in
+          let r = accepts config keeps frames (good, tt) none p c hp hc .none-refused xs h in
           (r, back p c xs h r);
     }
