@@ -6,6 +6,7 @@ use mathlib.Core.List.{List}
 use native.Mathlib.Omega.{arith}
 use lib.ListN.{length}
 use lib.Dec.{eqb, ltb, leb}
+use Rattle.wire.specs.Choice.{either}
 use Rattle.wire.specs.Memory.{part-inside, part-outside}
 use Rattle.tmcc.specs.declared.layout.Pointers.{Pointers}
 use Rattle.tmcc.specs.Block.{decodeOf}
@@ -36,7 +37,7 @@ use Rattle.receiver.specs.Slot.{
 use Rattle.receiver.specs.Next.{Out as NextOut, readAll, nextOf}
 use Rattle.receiver.specs.Show.{memoryOf, showOf}
 use Rattle.receiver.specs.Claims.{IsRefused, Kept, Demand1}
-use Rattle.receiver.proofs.Unrefused.{choose, Unrefused, read-unrefused}
+use Rattle.receiver.proofs.Unrefused.{Unrefused, read-unrefused}
 
 -- 0, or a number from `first` to `last`
 abbrev Row : ℕ → ℕ → ℕ → Type 0
@@ -49,44 +50,44 @@ Keeps first last st r = IsRefused r → Kept first last st r
 start-row : (c : Config) → Row 1 4 (startRefusal c)
 unfolding startRefusal
 start-row c =
-    choose (Row 1 4) (ltb (c .watch .n) 1 || ltb 16 (c .watch .n)) (λ z. (omega arith, omega arith))
-    (choose (Row 1 4) (twice (c .watch) (c .watch .n)) (λ z. (omega arith, omega arith))
-    (choose (Row 1 4) (ltb 4095 (c .cid)) (λ z. (omega arith, omega arith))
-    (choose (Row 1 4) (ltb (c .limit) 1 || ltb 1048576 (c .limit)) (λ z. (omega arith, omega arith)) (λ z. absurd (z refl)))))
+    either (Row 1 4) (ltb (c .watch .n) 1 || ltb 16 (c .watch .n)) (λ z. (omega arith, omega arith))
+    (either (Row 1 4) (twice (c .watch) (c .watch .n)) (λ z. (omega arith, omega arith))
+    (either (Row 1 4) (ltb 4095 (c .cid)) (λ z. (omega arith, omega arith))
+    (either (Row 1 4) (ltb (c .limit) 1 || ltb 1048576 (c .limit)) (λ z. (omega arith, omega arith)) (λ z. absurd (z refl)))))
 
 start-kept : (c : Config) → Keeps 1 4 (freshState blankConfig) (startOf c)
 unfolding startOf
 start-kept c =
-    choose (Keeps 1 4 (freshState blankConfig)) (eqb (startRefusal c) 0) (λ z. absurd (z refl))
+    either (Keeps 1 4 (freshState blankConfig)) (eqb (startRefusal c) 0) (λ z. absurd (z refl))
     (λ z. record { number = start-row c z; state = refl })
 
 slot-row : (st : State) (packet collecting : ℕ) → Row 20 22 (refusalOf st packet collecting)
 unfolding refusalOf
 slot-row st packet collecting =
-    choose (Row 20 22) (leb 120 (st .frame .at)) (λ z. (omega arith, omega arith))
-    (choose (Row 20 22) (st .owed) (λ z. (omega arith, omega arith))
-    (choose (Row 20 22) (shortBy (st .config) packet collecting) (λ z. (omega arith, omega arith)) (λ z. absurd (z refl))))
+    either (Row 20 22) (leb 120 (st .frame .at)) (λ z. (omega arith, omega arith))
+    (either (Row 20 22) (st .owed) (λ z. (omega arith, omega arith))
+    (either (Row 20 22) (shortBy (st .config) packet collecting) (λ z. (omega arith, omega arith)) (λ z. absurd (z refl))))
 
 module _ (st : State) where
   frame-kept : (b : List ℕ) → Keeps 10 14 st (frameOf st b)
   unfolding frameOf
   frame-kept b =
       let d = decodeOf b (st .config .stream) in
-      choose (Keeps 10 14 st) (eqb (length b) 1178)
-      (choose (Keeps 10 14 st) (frameBusy st) (λ z. record { number = (omega arith, omega arith); state = refl })
-      (choose (Keeps 10 14 st) (eqb (d .refusal) 0) (λ z. absurd (z refl))
+      either (Keeps 10 14 st) (eqb (length b) 1178)
+      (either (Keeps 10 14 st) (frameBusy st) (λ z. record { number = (omega arith, omega arith); state = refl })
+      (either (Keeps 10 14 st) (eqb (d .refusal) 0) (λ z. absurd (z refl))
       (λ z. record { number = refusal-number b (st .config .stream) z; state = refl })))
       (λ z. record { number = (omega arith, omega arith); state = refl })
 
   lost-frame-kept : Keeps 11 11 st (lostFrameOf st)
   unfolding lostFrameOf
   lost-frame-kept =
-      choose (Keeps 11 11 st) (frameBusy st) (λ z. record { number = (omega arith, omega arith); state = refl }) (λ z. absurd (z refl))
+      either (Keeps 11 11 st) (frameBusy st) (λ z. record { number = (omega arith, omega arith); state = refl }) (λ z. absurd (z refl))
 
   lost-slot-kept : (packet collecting : ℕ) → Keeps 20 22 st (lostSlotOf st packet collecting)
   unfolding lostSlotOf
   lost-slot-kept packet collecting =
-      choose (Keeps 20 22 st) (eqb (refusalOf st packet collecting) 0) (λ z. absurd (z refl))
+      either (Keeps 20 22 st) (eqb (refusalOf st packet collecting) 0) (λ z. absurd (z refl))
       (λ z. record { number = slot-row st packet collecting z; state = refl })
 
   -- slot's answer, with packet memory
@@ -100,8 +101,8 @@ module _ (st : State) where
   slot-kept : (p c d : List ℕ) → KeepsBoth p (slotOf st p c d)
   unfolding slotOf
   slot-kept p c d =
-      choose (KeepsBoth p) (eqb (refusalOf st (length p) (length c)) 0)
-      (choose (KeepsBoth p) (wrongLength (dueLength st) (length d))
+      either (KeepsBoth p) (eqb (refusalOf st (length p) (length c)) 0)
+      (either (KeepsBoth p) (wrongLength (dueLength st) (length d))
       (λ z. (record { number = (omega arith, omega arith); state = refl }, refl)) (taken-kept (dueOwn st) p d (duePointers st)))
       (λ z.
       let n = slot-row st (length p) (length c) z in

@@ -4,6 +4,7 @@ use mathlib.Core.Bool.{Bool, true, false, cond}
 use mathlib.Core.List.{List}
 use lib.ListN.{drop}
 use lib.Dec.{eqb}
+use Rattle.wire.specs.Choice.{either}
 use Rattle.wire.specs.Memory.{partOf}
 use Rattle.tlv.specs.declared.packet.Next.{Next as TlvNext}
 use Rattle.tlv.specs.declared.packet.Next.the-variants.{Packet as PacketTo, Tail as TailAt}
@@ -27,11 +28,6 @@ use Rattle.delivery.specs.Cursor.{tailAdvanced, advancedBy, slotAdvanced, advan
 use Rattle.receiver.specs.declared.state.State.{State}
 use Rattle.receiver.specs.Next.{Out, onwards, readOn, past}
 
--- either of two answers
-pub choose {ℓ} : {A : Type 0} (P : A → Type ℓ) (b : Bool) {x y : A} → P x → P y → P (cond b x y)
-choose P true h k = h
-choose P false h k = k
-
 abbrev pub Unrefused : Event → Type 0
 Unrefused Nothing = Prim.Unit {0}
 Unrefused (Note n id) = Prim.Unit {0}
@@ -53,8 +49,8 @@ give-unrefused (Many a) q p =
 taken-unrefused : (q : Queue) (p : List ℕ) → Unrefused (takenOf q p .event)
 unfolding takenOf
 taken-unrefused q p =
-    choose (λ (t : Taken). Unrefused (t .event)) (eqb (q .note) 0)
-    (choose (λ (t : Taken). Unrefused (t .event)) (q .over) tt (give-unrefused (q .give) q p)) tt
+    either (λ (t : Taken). Unrefused (t .event)) (eqb (q .note) 0)
+    (either (λ (t : Taken). Unrefused (t .event)) (q .over) tt (give-unrefused (q .give) q p)) tt
 
 -- what is found is no refusal
 abbrev FoundGood : Found → Type 0
@@ -65,7 +61,7 @@ FoundGood Done = Prim.Unit {0}
 
 by-tail : (s : List ℕ) (at end : ℕ) → FoundGood (tailAdvanced s at end .found)
 unfolding tailAdvanced
-by-tail s at end = choose FoundGood (tooLong (drop at s)) tt tt
+by-tail s at end = either FoundGood (tooLong (drop at s)) tt tt
 
 by-slot : (x : TlvNext) (c : Cursor) (s : List ℕ) → FoundGood (advancedBy x c s .found)
 by-slot (PacketTo e) c s = tt
@@ -74,9 +70,9 @@ by-slot TailAt c s = by-tail s (c .at) (c .end)
 advanced-good : (c : Cursor) (p : List ℕ) → FoundGood (advancedOf c p .found)
 unfolding advancedOf slotAdvanced
 advanced-good c p =
-    choose (λ (a : Advanced). FoundGood (a .found)) (eqb (c .note) 0)
-    (choose (λ (a : Advanced). FoundGood (a .found)) (eqb (c .packet) 0)
-    (choose (λ (a : Advanced). FoundGood (a .found)) (c .reading)
+    either (λ (a : Advanced). FoundGood (a .found)) (eqb (c .note) 0)
+    (either (λ (a : Advanced). FoundGood (a .found)) (eqb (c .packet) 0)
+    (either (λ (a : Advanced). FoundGood (a .found)) (c .reading)
     (by-slot (packetAt (partOf p 0 (c .end)) (c .at)) c (partOf p 0 (c .end))) tt) tt)
     tt
 
