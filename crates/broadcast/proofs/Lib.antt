@@ -25,6 +25,7 @@ pub mod Reading
 pub mod Arrivals
 pub mod Demand3
 pub mod Readings
+pub mod HeldHeaders
 pub mod Nexts
 pub mod Accepts
 pub mod Broadcast

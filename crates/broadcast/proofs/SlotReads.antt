@@ -307,7 +307,7 @@ module _ {A : Type 0} (a : A) (st : State) (p d : List ℕ) (t : Pointers) (owed
       (subst (λ (x : List ℕ). Own true true (arrived true (held ls x) a (slotFrom d t))) (h .2)
       (held-reads ls (h .1) (rw (h .2) l) (top-inside d (t .0) (t .1) e)))
 
-  own-reads : (tl : Slot-state A) → HeldIs (st .held) p tl → Short tl
+  pub own-reads : (tl : Slot-state A) → HeldIs (st .held) p tl → Short tl
       → Reads st (st .frame) p (ownOf st p d t) (step tl (given a (slotFrom d t)))
   unfolding takenOf
   own-reads tl h l = rw (step-given tl a (slotFrom d t)) (own-by (sound d (t .0) (t .1)) refl tl h l)
@@ -322,7 +322,7 @@ module _ {A : Type 0} (st : State) (p : List ℕ) where
   loss-by (held ls b) true e h = stops-same (numberOf Lost) (note (numberOf Lost) ∷ []) p refl
   loss-by (held ls b) false e h = absurd (true≢false (sym (h .0) ∙ e))
 
-  loss-reads : (tl : Slot-state A) → HeldIs (st .held) p tl → Reads st (st .frame) p (lossOf st, p) (step tl lost)
+  pub loss-reads : (tl : Slot-state A) → HeldIs (st .held) p tl → Reads st (st .frame) p (lossOf st, p) (step tl lost)
   unfolding lossOf lostOf
   loss-reads tl h =
       record {

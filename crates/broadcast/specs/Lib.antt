@@ -14,5 +14,6 @@ pub mod Machines
 pub mod Bound
 pub mod Demand3
 pub mod Readings
+pub mod HeldHeaders
 pub mod Accepts
 pub mod Broadcast

@@ -68,9 +68,10 @@ Refuses n run l s k = slotOf run l s (output k) ≡ (Refused n, output k)
 
 abbrev pub Refusals : Type 0
 Refusals =
-    -- 75: a packet that is not whole, a first byte that is not good
+    -- 75: a packet that is not whole; a first byte that is not 0x7F, of the first packet and of one behind it
     Refuses 75 (0x7f ∷ 3 ∷ 0 ∷ []) 1871 0 0
-    × Refuses 75 (0x3f ∷ 3 ∷ 0 ∷ 0 ∷ []) 1871 0 0
+    × Refuses 75 (0x7e ∷ 3 ∷ 0 ∷ 0 ∷ []) 1871 0 0
+    × Refuses 75 (0x7f ∷ 3 ∷ 0 ∷ 0 ∷ 0x40 ∷ 3 ∷ 0 ∷ 0 ∷ []) 1871 0 0
     -- 76: between two entries of the table, and 0
     × Refuses 76 even 1871 2 0
     × Refuses 76 even 0 2 0
@@ -88,7 +89,7 @@ pub refusals : Refusals
 refusals =
     unfold be allBelow dataBytes goodFirst total complete marked cutBy cut in
     unfold whole unlisted refusalOf slotOf in
-    (refl, refl, refl, refl, refl, refl, refl, refl, refl, refl, refl)
+    (refl, refl, refl, refl, refl, refl, refl, refl, refl, refl, refl, refl)
 
 -- a run that the claims speak of
 pub shared-fills : Fills shared 1870 2 × AllShort (cut shared .packets)

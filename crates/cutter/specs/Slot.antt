@@ -18,7 +18,7 @@ use Rattle.cutter.specs.declared.slot.CutSlot.{CutSlot}
 use Rattle.cutter.specs.declared.slot.CutSlot.the-variants.{Cut, Refused}
 use Rattle.cutter.specs.Pointers.{topOf, lastOf}
 
--- whole TLV packets, each starting 01
+-- whole TLV packets, each with a good first byte
 unfoldable pub whole : List ℕ → Bool
 whole run = cut run .good && eqb (length (cut run .tail)) 0
 

@@ -51,18 +51,18 @@ no-gaps : (n : ℕ) (gs : List (List (List ℕ))) → AllGaps gs → AllGaps (re
 no-gaps zero gs h = h
 no-gaps (suc n) gs h = (tt, no-gaps n gs h)
 
--- by its first byte and its length field
-null-so : (x a b : ℕ) → marked (null x a b) ≡ true → complete (null x a b) ≡ true
-    → eqb (total (null x a b)) (length (null x a b)) ≡ true → leb (length (null x a b)) 16384 ≡ true → Null (null x a b)
-null-so x a b m c e l = record { type = refl; whole = (m, c, eqb-true _ _ e); short = leb-true _ _ l }
+-- by its length field
+null-so : (a b : ℕ) → marked (null a b) ≡ true → complete (null a b) ≡ true → eqb (total (null a b)) (length (null a b)) ≡ true
+    → leb (length (null a b)) 16384 ≡ true → Null (null a b)
+null-so a b m c e l = record { type = refl; whole = (m, c, eqb-true _ _ e); short = leb-true _ _ l }
 
 padding : AllGaps gaps
 unfolding be goodFirst total complete marked
 padding = (
-  (null-so 0x40 0 0 refl refl refl refl, tt),
+  (null-so 0 0 refl refl refl refl, tt),
   (
-    (null-so 0x7F 0x3F 0xFC refl refl refl refl, (null-so 0x7F 0 0 refl refl refl refl, tt)),
-    no-gaps 260 ((null 0x5A 7 3 ∷ []) ∷ []) ((null-so 0x5A 7 3 refl refl refl refl, tt), tt),
+    (null-so 0x3F 0xFC refl refl refl refl, (null-so 0 0 refl refl refl refl, tt)),
+    no-gaps 260 ((null 7 3 ∷ []) ∷ []) ((null-so 7 3 refl refl refl refl, tt), tt),
   ),
 )
 

@@ -53,14 +53,14 @@ metadata = parcel 19 1 2 7 noFields 5 (1 ∷ 2 ∷ 3 ∷ [])
 abbrev pub units : List Parcel
 units = inPieces ∷ timed ∷ nothing ∷ item ∷ aboveLimit ∷ metadata ∷ []
 
--- a null packet by its first byte and the two bytes of its length field, with contents that look like packets of type 3
-abbrev pub null : ℕ → ℕ → ℕ → List ℕ
-null first a b = first ∷ 0xFF ∷ a ∷ b ∷ replicate (a * 256 + b) 3
+-- a null packet by the two bytes of its length field, with contents that look like packets of type 3
+abbrev pub null : ℕ → ℕ → List ℕ
+null a b = 0x7F ∷ 0xFF ∷ a ∷ b ∷ replicate (a * 256 + b) 3
 
 -- before the first of 262 packets; two of them before the second, which is in the middle of the first unit; behind the last
 abbrev pub gaps : List (List (List ℕ))
 gaps =
-    (null 0x40 0 0 ∷ []) ∷ (null 0x7F 0x3F 0xFC ∷ null 0x7F 0 0 ∷ []) ∷ replicate 260 [] ++ ((null 0x5A 7 3 ∷ []) ∷ [])
+    (null 0 0 ∷ []) ∷ (null 0x3F 0xFC ∷ null 0 0 ∷ []) ∷ replicate 260 [] ++ ((null 7 3 ∷ []) ∷ [])
 
 -- it fills 13 slots of 1,870 bytes
 pub record Meets : Type 0 where

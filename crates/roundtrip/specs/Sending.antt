@@ -35,7 +35,7 @@ unfoldable pub allPackets : ℕ → List Parcel → List (List ℕ)
 allPackets cid [] = []
 allPackets cid (x ∷ xs) = parcelPackets cid x ++ allPackets cid xs
 
--- a null packet: type 0xFF, a whole TLV packet that starts 01, "at most 16,384 bytes with header"
+-- a null packet: type 0xFF, a whole TLV packet with a good first byte, "at most 16,384 bytes with header"
 pub record Null (b : List ℕ) : Type 0 where
   pub type : getD b 1 0 ≡ 0xFF
   pub whole : WholePacket b

@@ -1,11 +1,11 @@
--- What is claimed of slots to packets: what lost slots take away, and that the packets are those of the row.
+-- What is claimed of slots to packets: what lost slots take away, that the packets are those of the row, and how held bytes begin.
 use Prim.Native.Nat.{ℕ, suc, _<_}
 use mathlib.Core.Path.{_≡_}
-use mathlib.Core.Bool.{Bool}
+use mathlib.Core.Bool.{Bool, true}
 use mathlib.Core.List.{List, [], _∷_, _++_, map}
 use lib.ListN.{length, replicate}
-use Rattle.tlv.specs.Packet.{cut}
-use Rattle.tlv.specs.Run.{Slot, Labelled, State, searching, Arrival, lost, run, stateAfter, packets, Clean, intact, damaged}
+use Rattle.tlv.specs.Packet.{marked, cut}
+use Rattle.tlv.specs.Run.{Slot, Labelled, State, searching, held, Arrival, lost, step, run, stateAfter, packets, Clean, intact, damaged}
 use Rattle.tlv.specs.Row.{bytesOf, labelsOf, row, rowPackets}
 use Rattle.wire.specs.Lists.{sift, all}
 
@@ -19,6 +19,11 @@ module _ {A : Type 0} where
   abbrev pub Filled : List (A × Slot) → Type 0
   Filled [] = Unit {0}
   Filled (x ∷ xs) = (0 < length (x .1 .bytes)) × Filled xs
+
+  -- held bytes, if there are any, begin with a good first byte
+  abbrev pub Headed : State A → Type 0
+  Headed searching = Unit {0}
+  Headed (held ls b) = marked b ≡ true
 
   -- of a packet that was given, its labels
   abbrev pub seen : (A → Bool) → Labelled A → Seen
@@ -60,3 +65,11 @@ abbrev pub RunLost : Type 1
 RunLost = (A : Type 0) (st : State A) (n : ℕ) (xs : List (Arrival A))
     → (run st (replicate (suc n) lost ++ xs) ≡ run st (lost ∷ xs))
     × (stateAfter st (replicate (suc n) lost ++ xs) ≡ stateAfter st (lost ∷ xs))
+
+-- "held headers" (document 02, item 2): a slot, given or lost, sound or not, leaves held bytes that begin with a good first byte
+abbrev pub StepHeaded : Type 1
+StepHeaded = (A : Type 0) (st : State A) (x : Arrival A) → Headed st → Headed (step st x .state)
+
+-- and so do any slots, read by a fresh receiver
+abbrev pub RunHeaded : Type 1
+RunHeaded = (A : Type 0) (xs : List (Arrival A)) → Headed (stateAfter searching xs)

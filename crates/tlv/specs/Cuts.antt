@@ -132,6 +132,13 @@ cut-tail b =
     let e : length b - length (cut b .tail) ≡ length ps = omega arith in
     rw e (ap (drop (length ps)) (sym (cut-whole b)) ∙ drop-append-seam ps (cut b .tail))
 
+-- where each packet's first byte is good, the tail's is
+pub cut-tail-marked : (b : List ℕ) → cut b .good ≡ true → marked (cut b .tail) ≡ true
+cut-tail-marked = cut-induct (λ (b : List ℕ). cut b .good ≡ true → marked (cut b .tail) ≡ true)
+    (λ (b : List ℕ) (e : complete b ≡ false) (g : _). rw (cut-end b e) (rw (cut-end b e) at g))
+    (λ (b : List ℕ) (e : complete b ≡ true) (ih : _) (g : _).
+    rw (cut-more b e) (ih (and-both (marked b) (cut (drop (total b) b) .good) (rw (cut-more b e) at g) .1)))
+
 -- no packet is complete in it
 pub cut-tail-open : (b : List ℕ) → complete (cut b .tail) ≡ false
 cut-tail-open = cut-induct (λ (b : List ℕ). complete (cut b .tail) ≡ false)

@@ -4,13 +4,14 @@ use Prim.Native.Nat.{ℕ}
 use mathlib.Core.Path.{_≡_, refl}
 use mathlib.Core.Bool.{not}
 use mathlib.Core.List.{List, [], _∷_, _++_}
+use lib.ListN.{take}
 use lib.Dec.{eqb}
 use Rattle.wire.specs.Field.{be}
 use Rattle.tlv.specs.Packet.{goodFirst, total, complete, tooLong, marked, cutBy, cut}
 use Rattle.tlv.specs.Slot.{none, endFrom, lastPointer, sound}
 use Rattle.tlv.specs.Held.{endWithin, endBeyond, heldTotal, heldEnd, continuationOf}
 use Rattle.tlv.specs.Run.{Slot, note, packetOf, searching, held, Arrival}
-use Rattle.tlv.specs.Run.{kept, readFrom, finished, resumed, arrived, step, run, intact, damaged}
+use Rattle.tlv.specs.Run.{kept, readFrom, finished, resumed, arrived, step, run, stateAfter, intact, damaged}
 use Rattle.tlv.specs.Row.{tagged, allBytes, row, packetsBy, rowPackets}
 
 -- a null packet that is only its header, and two IP packets
@@ -42,13 +43,16 @@ through =
     ∷ (3, record { top = 3; last = 7; bytes = 0x55 ∷ 0x66 ∷ 0x77 ∷ nullPacket })
     ∷ []
 
--- slots that are noted, each with a packet behind it that is read from its top pointer: an unsound slot; a slot without a top pointer,
--- which nothing held fits; a tail of 16,385 bytes
+-- slots that are noted, each with a packet behind it that is read from its top pointer: two unsound slots, by the last pointer and
+-- by the first byte of a tail; a slot without a top pointer, which nothing held fits; a tail of 16,385 bytes
 abbrev next : ℕ × Slot
 next = (2, record { top = 3; last = 7; bytes = 0x55 ∷ 0x66 ∷ 0x77 ∷ nullPacket })
 
 abbrev unsound : ℕ × Slot
 unsound = (1, record { top = 0; last = 3; bytes = nullPacket })
+
+abbrev unmarked : ℕ × Slot
+unmarked = (1, record { top = 0; last = 4; bytes = nullPacket ++ 0x40 ∷ [] })
 
 abbrev unfitting : ℕ × Slot
 unfitting = (1, record { top = none; last = none; bytes = 0 ∷ 4 ∷ 0x44 ∷ [] })
@@ -85,6 +89,10 @@ Fades =
     -- "an unsound one gives 41, makes it searching, and nothing is read from it", also while searching
     × (run searching (intact (unsound ∷ next ∷ [])) ≡ note 41 ∷ packetOf (2 ∷ []) nullPacket ∷ [])
     × (run (held [] []) (intact (unsound ∷ next ∷ [])) ≡ note 41 ∷ packetOf (2 ∷ []) nullPacket ∷ [])
+    × (run (held [] []) (intact (unmarked ∷ next ∷ [])) ≡ note 41 ∷ packetOf (2 ∷ []) nullPacket ∷ [])
+    -- held bytes, as RunHeaded speaks of them: one byte, and a packet that goes on
+    × (stateAfter searching (intact slots) ≡ held (3 ∷ []) (0x7f ∷ []))
+    × (stateAfter searching (take 2 (intact through)) ≡ held (1 ∷ 2 ∷ []) (0x7f ∷ 3 ∷ 0 ∷ 4 ∷ 0x44 ∷ []))
     -- 42, and "a drop with t = 0xFFFF, leaves it searching"
     × (run (held [] []) (intact (unfitting ∷ next ∷ [])) ≡ note 42 ∷ packetOf (2 ∷ []) nullPacket ∷ [])
     -- a tail "whose known total is above 16,384 gives 43", behind the slot's packets, and leaves it searching
@@ -94,5 +102,5 @@ pub fades : Fades
 fades =
     unfold be goodFirst total complete tooLong marked cutBy cut in
     unfold endFrom lastPointer sound endWithin endBeyond heldTotal heldEnd continuationOf in
-    unfold kept readFrom finished resumed arrived step run allBytes row packetsBy rowPackets in
-    (refl, refl, refl, refl, refl, refl, refl, refl, refl, refl, refl, refl)
+    unfold kept readFrom finished resumed arrived step run stateAfter allBytes row packetsBy rowPackets in
+    (refl, refl, refl, refl, refl, refl, refl, refl, refl, refl, refl, refl, refl, refl, refl)

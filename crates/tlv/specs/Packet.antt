@@ -4,16 +4,15 @@ use mathlib.Core.Bool.{Bool, true, cond, _&&_}
 use mathlib.Core.List.{List, [], _∷_}
 use lib.ListN.{length, take, drop}
 use lib.Dec.{eqb, leb, ltb}
-use Rattle.wire.specs.Bits.{bitsAt}
 use Rattle.wire.specs.Field.{be}
 use Rattle.tlv.specs.declared.packet.Next.{Next}
 use Rattle.tlv.specs.declared.packet.Next.the-variants.{Packet, Tail}
 use Rattle.tlv.specs.declared.packet.Walked.{Walked}
 use Rattle.tlv.specs.declared.packet.Walked.the-variants.{Unmarked, Tail as TailAt}
 
--- a good first byte of a TLV header: 01 in the top two bits, the other six are ignored
+-- a good first byte of a TLV header: "a header is good only if its first byte is 0x7F" (document 02, item 2)
 unfoldable pub goodFirst : ℕ → Bool
-goodFirst x = eqb (bitsAt 6 2 x) 1
+goodFirst x = eqb x 0x7f
 
 -- the bytes of the packet that begins `b`: its header of 4, and the 16-bit length of what follows
 unfoldable pub total : List ℕ → ℕ

@@ -58,13 +58,19 @@ header x = 0x7f ∷ 3 ∷ 0 ∷ x ∷ []
 -- small ones, by the readings of document 01
 abbrev pub Examples : Type 0
 Examples =
-    -- "01 in the top two bits of each packet's first byte (the other six are ignored)"
-    (goodFirst 0x40 ≡ true)
-    × (goodFirst 0x3f ≡ false)
-    × (goodFirst 0xc0 ≡ false)
-    -- of the unfinished packet too, even if only one byte of it is there
-    × (sound (nullPacket ++ 0x40 ∷ []) 0 4 ≡ true)
-    × (sound (nullPacket ++ 0 ∷ []) 0 4 ≡ false)
+    -- "a header is good only if its first byte is 0x7F" (document 02, item 2)
+    (goodFirst 0x7f ≡ true)
+    × (goodFirst 0x40 ≡ false)
+    × (goodFirst 0x7e ≡ false)
+    × (goodFirst 0xff ≡ false)
+    -- the first packet's, one between packets, and that of the unfinished packet too, even if only one byte of it is there
+    × (sound (nullPacket ++ nullPacket ++ 0x7f ∷ []) 0 8 ≡ true)
+    × (sound (0x40 ∷ 0xff ∷ 0 ∷ 0 ∷ nullPacket ++ 0x7f ∷ []) 0 8 ≡ false)
+    × (sound (nullPacket ++ 0x7e ∷ 0xff ∷ 0 ∷ 0 ∷ 0x7f ∷ []) 0 8 ≡ false)
+    × (sound (nullPacket ++ nullPacket ++ 0x40 ∷ []) 0 8 ≡ false)
+    -- bytes before t are not looked at, nor is a slot in which no packet starts
+    × (sound (0x40 ∷ nullPacket) 1 5 ≡ true)
+    × (sound (0x40 ∷ 0x40 ∷ []) 0xffff 0xffff ≡ true)
     -- "last is the end of the last packet complete from t, else t, or 0xFFFF if t is 0"
     × (sound (3 ∷ 0x7f ∷ []) 1 0xffff ≡ false)
     × (sound (0x7f ∷ 3 ∷ []) 0 0xffff ≡ true)
@@ -91,4 +97,4 @@ pub examples : Examples
 examples =
     unfold be goodFirst total complete marked cutBy cut in
     unfold endFrom lastPointer sound endWithin endBeyond heldTotal heldEnd continuationOf in
-    (refl, refl, refl, refl, refl, refl, refl, refl, refl, refl, refl, refl, refl, refl, refl, refl, refl, refl, refl, refl, refl)
+    (refl, refl, refl, refl, refl, refl, refl, refl, refl, refl, refl, refl, refl, refl, refl, refl, refl, refl, refl, refl, refl, refl, refl, refl, refl, refl)

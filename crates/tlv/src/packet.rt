@@ -8,11 +8,11 @@ use wire::field;
 // The longest TLV packet that is kept, its header included.
 pub const MAX_PACKET: usize = 16384;
 
-// Whether a byte can begin a TLV header: 01 in its top two bits.
+// Whether a byte can begin a TLV header.
 pub fn good_first(b: u8) -> bool
     ensures { λ r. ⌜ r ≡ goodFirst b ⌝ }
 {
-    b >> 6 & 3 == 1
+    b == 0x7f
 }
 
 fn wide(x: u16) -> usize
