@@ -12,8 +12,8 @@ use Rattle.tmcc.specs.declared.layout.Pointers.{Pointers}
 use Rattle.tmcc.specs.Block.{decodeOf}
 use Rattle.tlv.specs.Packet.{marked}
 use Rattle.tlv.specs.Run.{State as Slot-state, searching as slot-searching, held, Stepped, lost, given}
-use Rattle.tlv.specs.Claims.{Headed}
-use Rattle.tlv.proofs.Heads.{step-headed}
+use Rattle.tlv.specs.Claims.{HeldGood}
+use Rattle.tlv.proofs.HeldGood.{step-held-good}
 use Rattle.reassembly.specs.declared.config.Config.{Config}
 use Rattle.intake.specs.declared.held.Cursor.{Cursor}
 use Rattle.intake.specs.declared.held.Held.{Held}
@@ -52,33 +52,33 @@ use Rattle.receiver.specs.ReadOn.{packet-kept}
 use Rattle.broadcast.specs.Drains.{HeldIs}
 use Rattle.broadcast.specs.Pending.{cursorLeaves}
 use Rattle.broadcast.specs.SlotClaims.{Short, CursorGood, Same, slotFrom, Advances}
-use Rattle.broadcast.specs.Calls.{Machine, Call, frame, lost-frame, slot, lost-slot, next, did, Made, own, shows, added, machineAfter}
+use Rattle.broadcast.specs.Calls.{Machine, Call, frame, lost-frame, slot, lost-slot, next, did, Made, own, shows, added, machineAfter, machineAfterAll}
 use Rattle.broadcast.specs.Demand3.{started}
-use Rattle.broadcast.specs.HeldHeaders.{machineAt, HeldGood, HeldHeaders}
+use Rattle.broadcast.specs.HeldHeaders.{HeldHeader, HeldHeaders}
 use Rattle.broadcast.proofs.Advance.{advance, still-good}
 use Rattle.broadcast.proofs.SlotReads.{own-reads, loss-reads}
 
 -- once the cursor has given all, the held bytes are those of a state over lists that begin with a good first byte
-pub record Heads (st : State) (p : List ℕ) : Type 0 where
+pub record Holds (st : State) (p : List ℕ) : Type 0 where
   pub slots : Slot-state ℕ
-  pub headed : Headed slots
+  pub first : HeldGood slots
   pub short : Short slots
   pub leaves : HeldIs (cursorLeaves (st .cursor) (st .held) p) p slots
   pub good : CursorGood (st .cursor) (st .held) p
   pub paid : st .owed ≡ false → st .cursor ≡ noted 0
 
 -- where nothing is owed, they are held now
-held-now : (st : State) (p : List ℕ) (k : Heads st p) → st .owed ≡ false → HeldIs (st .held) p (k .slots)
+held-now : (st : State) (p : List ℕ) (k : Holds st p) → st .owed ≡ false → HeldIs (st .held) p (k .slots)
 unfolding cursorLeaves
 held-now st p k o = rw (k .paid o) at (k .leaves)
 
 -- a slot was taken
-taken-heads : (st : State) (p : List ℕ) (w : Stepped ℕ) → Same (st .cursor) (st .held) p w → st .owed ≡ true → Headed (w .state)
-    → Heads st p
-taken-heads st p w s o h =
+taken-holds : (st : State) (p : List ℕ) (w : Stepped ℕ) → Same (st .cursor) (st .held) p w → st .owed ≡ true → HeldGood (w .state)
+    → Holds st p
+taken-holds st p w s o h =
     record {
       slots = w .state;
-      headed = h;
+      first = h;
       short = s .short;
       leaves = s .leaves;
       good = s .good;
@@ -86,24 +86,24 @@ taken-heads st p w s o h =
     }
 
 -- nothing of the slot changed
-module _ (st : State) (p : List ℕ) (k : Heads st p) where
-  kept-heads : (after : State) → after .owed ≡ st .owed → after .held ≡ st .held → after .cursor ≡ st .cursor → Heads after p
-  kept-heads after o h c =
+module _ (st : State) (p : List ℕ) (k : Holds st p) where
+  kept-holds : (after : State) → after .owed ≡ st .owed → after .held ≡ st .held → after .cursor ≡ st .cursor → Holds after p
+  kept-holds after o h c =
       record {
         slots = k .slots;
-        headed = k .headed;
+        first = k .first;
         short = k .short;
         leaves = rw (h, c) (k .leaves);
         good = rw (h, c) (k .good);
         paid = λ e. c ∙ k .paid (sym o ∙ e);
       }
 
-  counted-heads : Heads (counted st) p
+  counted-holds : Holds (counted st) p
   unfolding counted
-  counted-heads =
+  counted-holds =
       record {
         slots = k .slots;
-        headed = k .headed;
+        first = k .first;
         short = k .short;
         leaves = k .leaves;
         good = k .good;
@@ -111,12 +111,12 @@ module _ (st : State) (p : List ℕ) (k : Heads st p) where
       }
 
   -- next moved the cursor, and owes more
-  moved-heads : (cur : Cursor) → st .owed ≡ true → cursorLeaves (st .cursor) (st .held) p ≡ cursorLeaves cur (st .held) p
-      → CursorGood cur (st .held) p → Heads (withSlot st (st .held) cur) p
-  moved-heads cur o l g =
+  moved-holds : (cur : Cursor) → st .owed ≡ true → cursorLeaves (st .cursor) (st .held) p ≡ cursorLeaves cur (st .held) p
+      → CursorGood cur (st .held) p → Holds (withSlot st (st .held) cur) p
+  moved-holds cur o l g =
       record {
         slots = k .slots;
-        headed = k .headed;
+        first = k .first;
         short = k .short;
         leaves = rw l at (k .leaves);
         good = g;
@@ -124,53 +124,53 @@ module _ (st : State) (p : List ℕ) (k : Heads st p) where
       }
 
 -- frame and lost frame
-module _ (st : State) (p : List ℕ) (k : Heads st p) where
+module _ (st : State) (p : List ℕ) (k : Holds st p) where
   abbrev Leaves : Called → Type 0
-  Leaves r = Heads (r .state) p
+  Leaves r = Holds (r .state) p
 
-  frame-heads : (b : List ℕ) → Leaves (frameOf st b)
+  frame-holds : (b : List ℕ) → Leaves (frameOf st b)
   unfolding frameOf
-  frame-heads b =
+  frame-holds b =
       either Leaves (eqb (length b) 1178)
       (either Leaves (frameBusy st) k
-      (either Leaves (eqb (decodeOf b (st .config .stream) .refusal) 0) (kept-heads st p k _ refl refl refl) k))
+      (either Leaves (eqb (decodeOf b (st .config .stream) .refusal) 0) (kept-holds st p k _ refl refl refl) k))
       k
 
   -- a slot is lost, counted before or not
-  loss-heads : (s : State) → s .held ≡ st .held → st .owed ≡ false → Heads (lossOf s) p
-  loss-heads s h o =
+  loss-holds : (s : State) → s .held ≡ st .held → st .owed ≡ false → Holds (lossOf s) p
+  loss-holds s h o =
       let r = loss-reads s p (k .slots) (rw h (held-now st p k o)) in
-      taken-heads (lossOf s) p _ (r .slot) (r .owed) (step-headed ℕ (k .slots) lost (k .headed))
+      taken-holds (lossOf s) p _ (r .slot) (r .owed) (step-held-good ℕ (k .slots) lost (k .first))
 
-  lost-frame-heads : Leaves (lostFrameOf st)
+  lost-frame-holds : Leaves (lostFrameOf st)
   unfolding lostFrameOf
-  lost-frame-heads = by-test Leaves (frameBusy st) _ _ (λ b. k) (λ b. loss-heads st refl (free st b .1))
+  lost-frame-holds = by-test Leaves (frameBusy st) _ _ (λ b. k) (λ b. loss-holds st refl (free st b .1))
 
   -- slot, with its data or lost
-  loss-taken : (o : Bool) → st .owed ≡ false → Heads (lossTaken o st) p
-  loss-taken true e = loss-heads (counted st) (unfold counted in refl) e
-  loss-taken false e = counted-heads st p k
+  loss-taken : (o : Bool) → st .owed ≡ false → Holds (lossTaken o st) p
+  loss-taken true e = loss-holds (counted st) (unfold counted in refl) e
+  loss-taken false e = counted-holds st p k
 
-  lost-slot-heads : (packet collecting : ℕ) → Leaves (lostSlotOf st packet collecting)
+  lost-slot-holds : (packet collecting : ℕ) → Leaves (lostSlotOf st packet collecting)
   unfolding lostSlotOf
-  lost-slot-heads packet collecting =
+  lost-slot-holds packet collecting =
       by-test Leaves (eqb (refusalOf st packet collecting) 0) _ _
       (λ e. loss-taken (dueOwn st) (ready st packet collecting (eqb-true _ _ e) .free)) (λ e. k)
 
   abbrev Both : Slot-out → Type 0
-  Both r = Heads (r .0 .state) (r .1)
+  Both r = Holds (r .0 .state) (r .1)
 
   slot-taken : (o : Bool) (d : List ℕ) (t : Pointers) → st .owed ≡ false → 21433 ≤ length p → length d ≤ 5049
       → Both (slotTaken o st p d t)
   unfolding counted
   slot-taken true d t e l n =
       let r = own-reads 0 (counted st) p d t refl (omega arith) (omega arith) (k .slots) (held-now st p k e) (k .short) in
-      taken-heads _ _ _ (r .slot) (r .owed) (step-headed ℕ (k .slots) (given 0 (slotFrom d t)) (k .headed))
-  slot-taken false d t e l n = counted-heads st p k
+      taken-holds _ _ _ (r .slot) (r .owed) (step-held-good ℕ (k .slots) (given 0 (slotFrom d t)) (k .first))
+  slot-taken false d t e l n = counted-holds st p k
 
-  slot-heads : (c d : List ℕ) → Both (slotOf st p c d)
+  slot-holds : (c d : List ℕ) → Both (slotOf st p c d)
   unfolding slotOf
-  slot-heads c d =
+  slot-holds c d =
       by-test Both (eqb (refusalOf st (length p) (length c)) 0) _ _
       (λ e.
       let r = ready st (length p) (length c) (eqb-true _ _ e) in
@@ -180,37 +180,37 @@ module _ (st : State) (p : List ℕ) (k : Heads st p) where
 
 -- next
 abbrev LeavesNext : List ℕ → Out → Type 0
-LeavesNext p r = Heads (r .0 .state) p
+LeavesNext p r = Holds (r .0 .state) p
 
 module _ (p : List ℕ) (more : State → List ℕ → Out)
-    (again : (st : State) (c : List ℕ) → st .owed ≡ true → Heads st p → LeavesNext p (more st c)) where
+    (again : (st : State) (c : List ℕ) → st .owed ≡ true → Holds st p → LeavesNext p (more st c)) where
   -- what was found, the queue being empty; the cursor cur is past it
-  found-heads : (x : Found) (st : State) (c : List ℕ) (cur : Cursor) → st .owed ≡ true → (k : Heads st p)
+  found-holds : (x : Found) (st : State) (c : List ℕ) (cur : Cursor) → st .owed ≡ true → (k : Holds st p)
       → Advances x (st .cursor) cur (st .held) p → LeavesNext p (onwards x (withSlot st (st .held) cur) p c more)
-  found-heads (AnEvent Nothing) st c cur o k a = absurd a
-  found-heads (AnEvent (Note n id)) st c cur o k a = moved-heads st p k cur o (a .1 .leaves) (a .1 .good)
-  found-heads (AnEvent (Unit g)) st c cur o k a = absurd a
-  found-heads (AnEvent (Refused n)) st c cur o k a = absurd a
-  found-heads (Packet s e) st c cur o k a =
+  found-holds (AnEvent Nothing) st c cur o k a = absurd a
+  found-holds (AnEvent (Note n id)) st c cur o k a = moved-holds st p k cur o (a .1 .leaves) (a .1 .good)
+  found-holds (AnEvent (Unit g)) st c cur o k a = absurd a
+  found-holds (AnEvent (Refused n)) st c cur o k a = absurd a
+  found-holds (Packet s e) st c cur o k a =
       let st' = withSlot st (st .held) cur in
       let q = packet-kept st' p c s e in
       let r = packetOf st' p c s e in
       again (r .0) (r .1) (q .owed ∙ o)
-      (kept-heads st' p (moved-heads st p k cur o (a .leaves) (a .good)) (r .0) (q .owed) (q .held) (q .cursor))
-  found-heads (Tail s l) st c cur o k a =
+      (kept-holds st' p (moved-holds st p k cur o (a .leaves) (a .good)) (r .0) (q .owed) (q .held) (q .cursor))
+  found-holds (Tail s l) st c cur o k a =
       again (withSlot st (holding s l) cur) c o
       (record {
         slots = k .slots;
-        headed = k .headed;
+        first = k .first;
         short = k .short;
         leaves = rw (a .leaves-more) (rw (a .leaves) at (k .leaves));
         good = a .good;
         paid = λ e. absurd (true≢false (sym o ∙ e));
       })
-  found-heads Done st c cur o k a =
+  found-holds Done st c cur o k a =
       record {
         slots = k .slots;
-        headed = k .headed;
+        first = k .first;
         short = k .short;
         leaves = rw (a .stays) (k .leaves);
         good = rw (a .stays) (k .good);
@@ -218,83 +218,83 @@ module _ (p : List ℕ) (more : State → List ℕ → Out)
       }
 
   -- what was taken from the queue, or, where it is empty, found next
-  turned-heads : (e : Event) (st : State) (c : List ℕ) (q : Queue) → st .owed ≡ true → Heads st p
+  turned-holds : (e : Event) (st : State) (c : List ℕ) (q : Queue) → st .owed ≡ true → Holds st p
       → let t = turnBy e q (st .cursor) p in LeavesNext p (onwards (t .found) (past st t) p c more)
-  turned-heads Nothing st c q o k =
+  turned-holds Nothing st c q o k =
       let a = advancedOf (st .cursor) p in
-      found-heads (a .found) (withQueue st q) c (a .cursor) o (kept-heads st p k (withQueue st q) refl refl refl)
+      found-holds (a .found) (withQueue st q) c (a .cursor) o (kept-holds st p k (withQueue st q) refl refl refl)
       (advance (st .cursor) (st .held) p (k .good))
-  turned-heads (Note n id) st c q o k = kept-heads st p k _ refl refl refl
-  turned-heads (Unit g) st c q o k = kept-heads st p k _ refl refl refl
-  turned-heads (Refused n) st c q o k = kept-heads st p k _ refl refl refl
+  turned-holds (Note n id) st c q o k = kept-holds st p k _ refl refl refl
+  turned-holds (Unit g) st c q o k = kept-holds st p k _ refl refl refl
+  turned-holds (Refused n) st c q o k = kept-holds st p k _ refl refl refl
 
-read-heads : (n : ℕ) (p : List ℕ) (st : State) (c : List ℕ) → st .owed ≡ true → Heads st p → LeavesNext p (readOn n st p c)
+read-holds : (n : ℕ) (p : List ℕ) (st : State) (c : List ℕ) → st .owed ≡ true → Holds st p → LeavesNext p (readOn n st p c)
 unfolding readOn turnOf
-read-heads zero p st c o k = k
-read-heads (suc n) p st c o k =
+read-holds zero p st c o k = k
+read-holds (suc n) p st c o k =
     let t = takenOf (st .queue) p in
-    turned-heads p (λ s d. readOn n s p d) (read-heads n p) (t .event) st c (t .queue) o k
+    turned-holds p (λ s d. readOn n s p d) (read-holds n p) (t .event) st c (t .queue) o k
 
-next-heads : (st : State) (p c : List ℕ) → Heads st p → LeavesNext p (nextOf st p c)
+next-holds : (st : State) (p c : List ℕ) → Holds st p → LeavesNext p (nextOf st p c)
 unfolding nextOf readAll
-next-heads st p c k =
+next-holds st p c k =
     either (LeavesNext p) (shortBy (st .config) (length p) (length c)) k
-    (by-test (LeavesNext p) (st .owed) _ _ (λ o. read-heads (suc (left (st .cursor))) p st c o k) (λ o. k))
+    (by-test (LeavesNext p) (st .owed) _ _ (λ o. read-holds (suc (left (st .cursor))) p st c o k) (λ o. k))
 
 -- a call, and a list of them
-HeadsIn : Machine → Type 0
-HeadsIn m = Heads (m .state) (m .packet)
+HoldsIn : Machine → Type 0
+HoldsIn m = Holds (m .state) (m .packet)
 
-did-heads : (c : Call) (m : Machine) → HeadsIn m → HeadsIn (did c m .machine)
-unfolding did HeadsIn
-did-heads (frame b) m k = frame-heads (m .state) (m .packet) k b
-did-heads lost-frame m k = lost-frame-heads (m .state) (m .packet) k
-did-heads (slot d) m k = slot-heads (m .state) (m .packet) k (m .collecting) d
-did-heads lost-slot m k = lost-slot-heads (m .state) (m .packet) k (length (m .packet)) (length (m .collecting))
-did-heads next m k = next-heads (m .state) (m .packet) (m .collecting) k
+did-holds : (c : Call) (m : Machine) → HoldsIn m → HoldsIn (did c m .machine)
+unfolding did HoldsIn
+did-holds (frame b) m k = frame-holds (m .state) (m .packet) k b
+did-holds lost-frame m k = lost-frame-holds (m .state) (m .packet) k
+did-holds (slot d) m k = slot-holds (m .state) (m .packet) k (m .collecting) d
+did-holds lost-slot m k = lost-slot-holds (m .state) (m .packet) k (length (m .packet)) (length (m .collecting))
+did-holds next m k = next-holds (m .state) (m .packet) (m .collecting) k
 
-made-heads : (x : Made) (m : Machine) → HeadsIn m → HeadsIn (machineAfter x m)
-made-heads (own c) m k = did-heads c m k
-made-heads shows m k = k
-made-heads (added c) m k = did-heads c m k
+made-holds : (x : Made) (m : Machine) → HoldsIn m → HoldsIn (machineAfter x m)
+made-holds (own c) m k = did-holds c m k
+made-holds shows m k = k
+made-holds (added c) m k = did-holds c m k
 
-all-heads : (xs : List Made) (m : Machine) → HeadsIn m → HeadsIn (machineAt m xs)
-all-heads [] m k = k
-all-heads (x ∷ xs) m k = all-heads xs (machineAfter x m) (made-heads x m k)
+all-holds : (xs : List Made) (m : Machine) → HoldsIn m → HoldsIn (machineAfterAll m xs)
+all-holds [] m k = k
+all-holds (x ∷ xs) m k = all-holds xs (machineAfter x m) (made-holds x m k)
 
-fresh-heads : (cfg : Config) (p : List ℕ) → Heads (freshState cfg) p
+fresh-holds : (cfg : Config) (p : List ℕ) → Holds (freshState cfg) p
 unfolding freshState cursorLeaves
-fresh-heads cfg p =
+fresh-holds cfg p =
     record {
       slots = slot-searching;
-      headed = tt;
+      first = tt;
       short = tt;
       leaves = refl;
       good = still-good 0 0 searching p (omega arith);
       paid = λ e. refl;
     }
 
-start-heads : (cfg : Config) (p : List ℕ) → Heads (startOf cfg .state) p
+start-holds : (cfg : Config) (p : List ℕ) → Holds (startOf cfg .state) p
 unfolding startOf
-start-heads cfg p =
-    either (λ (r : Called). Heads (r .state) p) (eqb (startRefusal cfg) 0) (fresh-heads cfg p) (fresh-heads _ p)
+start-holds cfg p =
+    either (λ (r : Called). Holds (r .state) p) (eqb (startRefusal cfg) 0) (fresh-holds cfg p) (fresh-holds _ p)
 
 -- what is held now
-headed-now : (h : Held) (p : List ℕ) (tl : Slot-state ℕ) → HeldIs h p tl → Headed tl → h .on ≡ true
+good-now : (h : Held) (p : List ℕ) (tl : Slot-state ℕ) → HeldIs h p tl → HeldGood tl → h .on ≡ true
     → (h .start + h .len ≤ length p) × (marked (heldBytes h p) ≡ true)
-headed-now h p slot-searching i m o = absurd (true≢false (sym o ∙ i))
-headed-now h p (held ls b) i m o = (i .1, rw (i .2) m)
+good-now h p slot-searching i m o = absurd (true≢false (sym o ∙ i))
+good-now h p (held ls b) i m o = (i .1, rw (i .2) m)
 
-heads-good : (m : Machine) → HeadsIn m → m .state .held .on ≡ true → HeldGood m
-unfolding HeadsIn cursorLeaves
+heads-good : (m : Machine) → HoldsIn m → m .state .held .on ≡ true → HeldHeader m
+unfolding HoldsIn cursorLeaves
 heads-good m k o = go (m .state .cursor .reading) refl
   where
-    go : (r : Bool) → m .state .cursor .reading ≡ r → HeldGood m
+    go : (r : Bool) → m .state .cursor .reading ≡ r → HeldHeader m
     go true e = absurd (true≢false (sym (rw (k .good .held-none e) at o)))
     go false e =
-        let q = headed-now (m .state .held) (m .packet) (k .slots) (rw e at (k .leaves)) (k .headed) o in
+        let q = good-now (m .state .held) (m .packet) (k .slots) (rw e at (k .leaves)) (k .first) o in
         record { inside = q .0; begins = q .1 }
 
 pub held-headers : HeldHeaders
-unfolding HeadsIn
-held-headers cfg p c xs o = heads-good _ (all-heads xs (started cfg p c) (start-heads cfg p)) o
+unfolding HoldsIn
+held-headers cfg p c xs o = heads-good _ (all-holds xs (started cfg p c) (start-holds cfg p)) o

@@ -138,6 +138,11 @@ machineAfter (own c) m = did c m .machine
 machineAfter shows m = m
 machineAfter (added c) m = did c m .machine
 
+-- the machine after a list of calls
+abbrev pub machineAfterAll : Machine → List Made → Machine
+machineAfterAll m [] = m
+machineAfterAll m (x ∷ xs) = machineAfterAll (machineAfter x m) xs
+
 -- the list of calls makes up the prescribed reading, to its end
 abbrev pub Follows : List Todo → Machine → List Made → Type 0
 Follows ts m [] = ts ≡ []

@@ -85,6 +85,10 @@ bad = (
       ++ ((0x7f ∷ 3 ∷ 0 ∷ 19 ∷ 0x00 ∷ 0x20 ∷ 0x61 ∷ 0x40 ∷ replicate 15 0) ++ packet 17 9 0xc0 1 (0xb1 ∷ 0xb2 ∷ []))),
 ) ∷ []
 
+-- the whole unit's packet, but its first byte is 0x40
+abbrev noise : List (ℕ × Slot)
+noise = (1, slot 0 23 (0x40 ∷ drop 1 alone)) ∷ []
+
 abbrev without : ℕ → ℕ → Bool
 without n k = not (eqb n k)
 
@@ -127,6 +131,8 @@ Examples =
     × (account config (intact torn) ≡ note 42 0 ∷ note 60 18 ∷ [])
     -- damage inside a slot is noted; only 52 has a packet_id
     × (account config (intact bad) ≡ note 50 0 ∷ note 51 0 ∷ note 52 17 ∷ [])
+    -- a header that does not begin 0x7F: the slot is unsound, and the broadcast not undamaged
+    × (account config (intact noise) ≡ note 41 0 ∷ [])
 
 pub examples : Examples
 unfolding be goodFirst total complete tooLong marked cutBy cut endFrom lastPointer sound endWithin endBeyond heldTotal heldEnd
@@ -135,4 +141,4 @@ unfolding be goodFirst total complete tooLong marked cutBy cut endFrom lastPoint
     headRead lookedUp bodyRead indicatorOf fragmentTypeOf mpuOf signallingOf parsedOf counterFits aggregationFits unitsFit tested
     payloadOf piecesOf fieldBytes fieldsOf pieceOf singleFits agrees nextPsn heard gap unheard interrupted begun counterFollows
     grown extended followed acted joinOf notesOf step openUnit sentAfter sent readOf events account inputs rowInputs carriedUnits
-examples = (refl, refl, refl, refl, refl, refl, refl, refl, refl, refl)
+examples = (refl, refl, refl, refl, refl, refl, refl, refl, refl, refl, refl)

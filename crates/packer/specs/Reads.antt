@@ -53,7 +53,7 @@ pub record Packable (u : Unit) : Type 0 where
   pub own-fields : ownFields (u .kind) (u .fields) ≡ u .fields
   pub own-mpu : u .kind ≡ 4 → u .mpu ≡ 0
 
--- a whole TLV packet: marked, and complete with nothing behind it
+-- a whole TLV packet: with a good first byte, and complete with nothing behind it
 abbrev pub WholePacket : List ℕ → Type 0
 WholePacket b = (marked b ≡ true) × (complete b ≡ true) × (total b ≡ length b)
 

@@ -4,4 +4,4 @@ pub mod Answers
 pub mod Loss
 pub mod RowCuts
 pub mod Rows
-pub mod Heads
+pub mod HeldGood

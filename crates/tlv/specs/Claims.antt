@@ -21,9 +21,9 @@ module _ {A : Type 0} where
   Filled (x ∷ xs) = (0 < length (x .1 .bytes)) × Filled xs
 
   -- held bytes, if there are any, begin with a good first byte
-  abbrev pub Headed : State A → Type 0
-  Headed searching = Unit {0}
-  Headed (held ls b) = marked b ≡ true
+  abbrev pub HeldGood : State A → Type 0
+  HeldGood searching = Unit {0}
+  HeldGood (held ls b) = marked b ≡ true
 
   -- of a packet that was given, its labels
   abbrev pub seen : (A → Bool) → Labelled A → Seen
@@ -67,9 +67,9 @@ RunLost = (A : Type 0) (st : State A) (n : ℕ) (xs : List (Arrival A))
     × (stateAfter st (replicate (suc n) lost ++ xs) ≡ stateAfter st (lost ∷ xs))
 
 -- "held headers" (document 02, item 2): a slot, given or lost, sound or not, leaves held bytes that begin with a good first byte
-abbrev pub StepHeaded : Type 1
-StepHeaded = (A : Type 0) (st : State A) (x : Arrival A) → Headed st → Headed (step st x .state)
+abbrev pub StepHeldGood : Type 1
+StepHeldGood = (A : Type 0) (st : State A) (x : Arrival A) → HeldGood st → HeldGood (step st x .state)
 
--- and so do any slots, read by a fresh receiver
-abbrev pub RunHeaded : Type 1
-RunHeaded = (A : Type 0) (xs : List (Arrival A)) → Headed (stateAfter searching xs)
+-- the same after any slots, read by a fresh receiver
+abbrev pub RunHeldGood : Type 1
+RunHeldGood = (A : Type 0) (xs : List (Arrival A)) → HeldGood (stateAfter searching xs)

@@ -7,11 +7,16 @@ use native.Mathlib.Omega.{arith}
 use lib.ListN.{length, take, drop, getD, length-append, length-drop, take-append-drop, List·getD-append}
 use lib.Seq.{length-take-le, take-append-le, drop-append-le, drop-append-seam, getD-take}
 use lib.Dec.{leb}
-use borrow.Author.Tests.{leb-true, le-leb, lt-leb}
+use borrow.Author.Tests.{eqb-true, leb-true, le-leb, lt-leb}
 use Rattle.wire.specs.Field.{be-2}
-use Rattle.tlv.specs.Packet.{total, complete, marked, Cut, uncut, inFront, cutBy, cut}
+use Rattle.tlv.specs.Packet.{goodFirst, total, complete, marked, Cut, uncut, inFront, cutBy, cut}
 
 -- the header of a packet
+
+-- no other first byte is good
+pub good-only : (x : ℕ) → goodFirst x ≡ true → x ≡ 0x7f
+unfolding goodFirst
+good-only x e = eqb-true x 0x7f e
 
 pub total-bytes : (b : List ℕ) → total b ≡ 4 + (getD b 2 0 * 256 + getD b 3 0)
 unfolding total

@@ -48,11 +48,11 @@ through =
 abbrev next : ℕ × Slot
 next = (2, record { top = 3; last = 7; bytes = 0x55 ∷ 0x66 ∷ 0x77 ∷ nullPacket })
 
-abbrev unsound : ℕ × Slot
-unsound = (1, record { top = 0; last = 3; bytes = nullPacket })
+abbrev wrongLast : ℕ × Slot
+wrongLast = (1, record { top = 0; last = 3; bytes = nullPacket })
 
-abbrev unmarked : ℕ × Slot
-unmarked = (1, record { top = 0; last = 4; bytes = nullPacket ++ 0x40 ∷ [] })
+abbrev wrongFirst : ℕ × Slot
+wrongFirst = (1, record { top = 0; last = 4; bytes = nullPacket ++ 0x40 ∷ [] })
 
 abbrev unfitting : ℕ × Slot
 unfitting = (1, record { top = none; last = none; bytes = 0 ∷ 4 ∷ 0x44 ∷ [] })
@@ -87,10 +87,10 @@ Fades =
     × (rowPackets through
     ≡ (tagged 1 (0x7f ∷ 3 ∷ []) ++ tagged 2 (0 ∷ 4 ∷ 0x44 ∷ []) ++ tagged 3 (0x55 ∷ 0x66 ∷ 0x77 ∷ [])) ∷ tagged 3 nullPacket ∷ [])
     -- "an unsound one gives 41, makes it searching, and nothing is read from it", also while searching
-    × (run searching (intact (unsound ∷ next ∷ [])) ≡ note 41 ∷ packetOf (2 ∷ []) nullPacket ∷ [])
-    × (run (held [] []) (intact (unsound ∷ next ∷ [])) ≡ note 41 ∷ packetOf (2 ∷ []) nullPacket ∷ [])
-    × (run (held [] []) (intact (unmarked ∷ next ∷ [])) ≡ note 41 ∷ packetOf (2 ∷ []) nullPacket ∷ [])
-    -- held bytes, as RunHeaded speaks of them: one byte, and a packet that goes on
+    × (run searching (intact (wrongLast ∷ next ∷ [])) ≡ note 41 ∷ packetOf (2 ∷ []) nullPacket ∷ [])
+    × (run (held [] []) (intact (wrongLast ∷ next ∷ [])) ≡ note 41 ∷ packetOf (2 ∷ []) nullPacket ∷ [])
+    × (run (held [] []) (intact (wrongFirst ∷ next ∷ [])) ≡ note 41 ∷ packetOf (2 ∷ []) nullPacket ∷ [])
+    -- what is held then: one byte of a header; a packet that goes on
     × (stateAfter searching (intact slots) ≡ held (3 ∷ []) (0x7f ∷ []))
     × (stateAfter searching (take 2 (intact through)) ≡ held (1 ∷ 2 ∷ []) (0x7f ∷ 3 ∷ 0 ∷ 4 ∷ 0x44 ∷ []))
     -- 42, and "a drop with t = 0xFFFF, leaves it searching"

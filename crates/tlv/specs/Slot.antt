@@ -1,4 +1,4 @@
--- Sound slots (document 01, "A slot is sound exactly if").
+-- Sound slots (document 01, "A slot is sound exactly if"; document 02, item 2, for the first bytes).
 use Prim.Native.Nat.{ℕ, _-_, _≤_, _<_}
 use mathlib.Core.Path.{_≡_}
 use mathlib.Core.Bool.{Bool, false, cond, _&&_, _||_}

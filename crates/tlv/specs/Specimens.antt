@@ -55,7 +55,7 @@ nullPacket = 0x7f ∷ 0xff ∷ 0 ∷ 0 ∷ []
 abbrev header : ℕ → List ℕ
 header x = 0x7f ∷ 3 ∷ 0 ∷ x ∷ []
 
--- small ones, by the readings of document 01
+-- small ones, by the readings of document 01 and of document 02, item 2
 abbrev pub Examples : Type 0
 Examples =
     -- "a header is good only if its first byte is 0x7F" (document 02, item 2)
@@ -63,7 +63,7 @@ Examples =
     × (goodFirst 0x40 ≡ false)
     × (goodFirst 0x7e ≡ false)
     × (goodFirst 0xff ≡ false)
-    -- the first packet's, one between packets, and that of the unfinished packet too, even if only one byte of it is there
+    -- a bad first byte spoils the slot: the first packet's, that of one behind it, the unfinished one's even if only that byte is there
     × (sound (nullPacket ++ nullPacket ++ 0x7f ∷ []) 0 8 ≡ true)
     × (sound (0x40 ∷ 0xff ∷ 0 ∷ 0 ∷ nullPacket ++ 0x7f ∷ []) 0 8 ≡ false)
     × (sound (nullPacket ++ 0x7e ∷ 0xff ∷ 0 ∷ 0 ∷ 0x7f ∷ []) 0 8 ≡ false)

@@ -8,7 +8,7 @@ use wire::field;
 // The longest TLV packet that is kept, its header included.
 pub const MAX_PACKET: usize = 16384;
 
-// Whether a byte can begin a TLV header.
+// Whether a byte begins a good TLV header: 0x7F, that is 01 and six reserved bits, all 1.
 pub fn good_first(b: u8) -> bool
     ensures { λ r. ⌜ r ≡ goodFirst b ⌝ }
 {
@@ -66,7 +66,7 @@ pub fn too_long(s: &[u8], at: usize) -> bool
 
 // Where a walk over packets comes to.
 pub enum Walked {
-    // A packet whose first byte is no header's.
+    // A packet whose first byte is not good.
     Unmarked,
     // The end of the last complete packet.
     Tail(usize),
