@@ -1,7 +1,7 @@
 //! Cutter: a slot out of a run of TLV packets, with its top and last pointer.
 
 use crate::control_block::DATA_LENGTHS;
-use crate::slots::{packet_total, NO_POINTER, TLV_HEADER};
+use crate::slots::{good_first, packet_total, NO_POINTER, TLV_HEADER};
 use crate::Refusal;
 
 /// Copies slot `s` (from 0) of `run`, of `len` bytes, and gives its top and last pointer.
@@ -23,11 +23,12 @@ pub fn cut(run: &[u8], len: usize, s: usize, out: &mut [u8]) -> Result<(u16, u16
     Ok(pointers(run, end - len, end))
 }
 
+/// Whether the run is a row of complete packets, each with a good first byte.
 fn whole_packets(run: &[u8]) -> bool {
     let mut at = 0;
     while at < run.len() {
         let left = run.len() - at;
-        if run[at] >> 6 != 1 || left < TLV_HEADER || left < packet_total(run, at) {
+        if !good_first(run[at]) || left < TLV_HEADER || left < packet_total(run, at) {
             return false;
         }
         at += packet_total(run, at);

@@ -14,19 +14,25 @@ pub const MAX_SLOT: usize = 5_049;
 /// Packet memory: a held packet and the longest slot.
 pub const PACKET_MEMORY: usize = SLOT_AT + MAX_SLOT;
 
+/// Whether a TLV header may begin with this byte. Every other one is noise, the reserved bits included.
+#[inline(always)]
+pub fn good_first(byte: u8) -> bool {
+    byte == 0x7F
+}
+
 /// Length, header included, of the TLV packet at `at`, whose header is there.
 #[inline(always)]
 pub fn packet_total(bytes: &[u8], at: usize) -> usize {
     TLV_HEADER + usize::from(be16(bytes, at + 2))
 }
 
-/// Walks the packets from `t`: one past the last complete one (`t` if none is), or none if a packet
-/// doesn't start with 01.
+/// Walks the packets from `t`: one past the last complete one (`t` if none is), or none if the first
+/// byte of a packet isn't good, be it the only byte of the packet in the slot.
 #[inline]
 pub fn walk(data: &[u8], t: usize) -> Option<usize> {
     let mut at = t;
     while at < data.len() {
-        if data[at] >> 6 != 1 {
+        if !good_first(data[at]) {
             return None;
         }
         if data.len() - at < TLV_HEADER {

@@ -85,9 +85,8 @@ fn null(rng: &mut Prng, run: &mut Vec<u8>) {
     } else {
         rng.below(60)
     };
-    let first = 0x40 | rng.byte() & 0x3F;
     let data = rng.bytes(len);
-    run.extend(tlv(first, 0xFF, &data));
+    run.extend(tlv(0x7F, 0xFF, &data));
 }
 
 /// Pads the run with null packets to a multiple of `len`.

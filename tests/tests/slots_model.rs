@@ -23,11 +23,11 @@ fn total(packet: &[u8]) -> usize {
     4 + usize::from(packet[2]) * 256 + usize::from(packet[3])
 }
 
-/// Packets from t on, the last perhaps not complete; none if one doesn't start with 01.
+/// Packets from t on, the last perhaps not complete; none if one doesn't start with 0x7F.
 fn split(mut rest: &[u8]) -> Option<Vec<&[u8]>> {
     let mut packets = Vec::new();
     while let Some(first) = rest.first() {
-        if first & 0xC0 != 0x40 {
+        if *first != 0x7F {
             return None;
         }
         let len = if rest.len() < 4 {

@@ -123,13 +123,16 @@ fn sound_slots() {
         assert_eq!(sound(&slot(0, 0), t, 0xFFFF), None);
         assert_eq!(sound(&slot(0, 0), t, t), None);
     }
-    // The unfinished packet at the end must begin with 01 too, even with one byte of it there.
+    // The unfinished packet at the end must begin with 0x7F too, even with one byte of it there.
     let mut data = slot(0, 1_865);
     assert_eq!(sound(&data, 0, 1_869), Some(1_869));
-    data[1_869] = 0xC0;
-    assert_eq!(sound(&data, 0, 1_869), None);
-    data[1_869] = 0x40;
-    assert_eq!(sound(&data, 0, 1_869), Some(1_869));
+    for first in [0x40, 0x7E, 0xC0] {
+        data[1_869] = first;
+        assert_eq!(sound(&data, 0, 1_869), None);
+    }
+    let mut data = slot(0, 1_866);
+    data[0] = 0x40;
+    assert_eq!(sound(&data, 0, 1_870), None);
 }
 
 #[test]

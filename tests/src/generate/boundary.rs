@@ -80,8 +80,8 @@ fn pair(case: usize) -> (Slot, Slot) {
         0..=4 => 4 + which_total,
         i => ends[i - 5],
     };
-    let packet = packet(0x41, total);
-    let mut first = self::packet(0x42, LEN - held);
+    let packet = packet(0xF1, total);
+    let mut first = self::packet(0xF2, LEN - held);
     first.extend(&packet[..held.min(total)]);
     first.resize(LEN, 0x7F);
     let due = total.saturating_sub(held);
@@ -116,7 +116,7 @@ fn fill(data: &mut Vec<u8>) -> u16 {
     };
     while data.len() < LEN {
         let room = LEN - data.len();
-        let whole = packet(0x43, 600.min(room.max(4)));
+        let whole = packet(0xF3, 600.min(room.max(4)));
         data.extend(&whole[..whole.len().min(room)]);
         if whole.len() <= room {
             last = data.len() as u16;
@@ -125,10 +125,10 @@ fn fill(data: &mut Vec<u8>) -> u16 {
     last
 }
 
-/// A null packet of `total` bytes that shows where it begins.
-fn packet(first: u8, total: usize) -> Vec<u8> {
+/// A packet of `total` bytes, of a type that nobody reads and that shows which one it is.
+fn packet(tlv_type: u8, total: usize) -> Vec<u8> {
     let mut out = vec![0xEE; total];
-    out[..2].copy_from_slice(&[first, 0xFF]);
+    out[..2].copy_from_slice(&[0x7F, tlv_type]);
     out[2..4].copy_from_slice(&((total - 4) as u16).to_be_bytes());
     out
 }

@@ -202,7 +202,7 @@ impl SlotBuilder {
             _ => rng.pick(&[0, 1, 2, 20, 100, 300]),
         };
         let mut packet = vec![0; 4 + len];
-        packet[0] = 0x40 | rng.byte() & 0x3F;
+        packet[0] = 0x7F;
         if rng.chance(1, 150) {
             packet[0] = rng.byte();
         }

@@ -141,8 +141,7 @@ impl Sender {
     }
 
     fn raw(&mut self, tlv_type: u8, data: &[u8]) {
-        let first = 0x40 | self.rng.byte() & 0x3F;
-        self.push(Item::Raw(tlv(first, tlv_type, data)));
+        self.push(Item::Raw(tlv(0x7F, tlv_type, data)));
     }
 
     fn null(&mut self) {
@@ -202,9 +201,8 @@ impl Sender {
         let rng = &mut self.rng;
         let flags = rng.pick(&[0, 0, 0x20, 0x02, 0x22]) | rng.byte() & 0x05;
         let extension_len = rng.pick(&[0, 1, 4, 30]);
-        let first = 0x40 | rng.byte() & 0x3F;
         Spec {
-            tlv_first: rng.pick(&[0x7F, first]),
+            tlv_first: 0x7F,
             tlv_type: 3,
             cid: self.config.cid,
             header_type: rng.pick(&[0x61, 0x61, 0x60, 0x20, 0x21]),

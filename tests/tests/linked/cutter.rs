@@ -31,9 +31,8 @@ fn run(rng: &mut Prng, len: usize, l: usize) -> Vec<u8> {
             5 => rng.below(20_000),
             _ => any,
         };
-        let first = rng.pick(&[0x7F, 0x40, 0x41, 0x5A]);
         let body = rng.bytes(total.max(4) - 4);
-        run.extend(tlv(first, rng.byte(), &body));
+        run.extend(tlv(0x7F, rng.byte(), &body));
     }
     run
 }
