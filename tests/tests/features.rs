@@ -22,6 +22,7 @@ fn all_seen(counts: &Counts) {
 }
 
 fn count_item(counts: &mut Counts, item: &Item, config: &Config) {
+    assert_eq!(item.bytes()[0], 0x7F);
     let spec = match item {
         Item::Raw(bytes) => {
             count(counts, "null packet", bytes[1] == 0xFF);

@@ -2,7 +2,9 @@
 //!
 //! The model follows document 01's sentences one by one and cares for nothing but being plain.
 
-use second::control_block::{decode, SlotPlan};
+mod common;
+
+use common::own_slots;
 use second::generate::catalogue::{capture, family};
 use second::slots::{Held, Stream, Taken, MAX_PACKET, PACKET_MEMORY, SLOT_AT};
 
@@ -161,30 +163,57 @@ fn items_of(taken: &Taken, memory: &[u8]) -> Vec<Item> {
     items
 }
 
-/// Data (none if lost), t and last of each own live slot of a capture.
-fn own_slots(capture: &[u8]) -> Vec<(Option<Vec<u8>>, u16, u16)> {
-    let be16 = |at: usize| u16::from_be_bytes([capture[at], capture[at + 1]]);
-    let (mut out, mut at) = (Vec::new(), 42);
-    let mut slots = [SlotPlan::default(); 120].into_iter();
-    while at < capture.len() {
-        if capture[at] == b'F' {
-            let block = capture[at + 1..at + 1_179].try_into().expect("1,178 bytes");
-            slots = decode(block, be16(1)).expect("a legal block").into_iter();
-            at += 1_179;
-            continue;
+/// What was compared.
+#[derive(Default)]
+struct Compared {
+    slots: usize,
+    packets: usize,
+    notes: usize,
+    /// Slots that left some bytes of a packet.
+    holding: usize,
+}
+
+/// The same is held by both, and what is held begins as a header must.
+fn same_held(machine: Held, memory: &[u8], model: Option<&[u8]>) -> bool {
+    let begins = |bytes: &[u8]| bytes.is_empty() || bytes[0] == 0x7F;
+    match (machine, model) {
+        (Held::Searching, None) => true,
+        (Held::Bytes { from, len }, Some(bytes)) => {
+            let held = &memory[from..from + len];
+            held == bytes && begins(held) && begins(bytes)
         }
-        let slot = slots.next().expect("120 slots");
-        let mut data = None;
-        if capture[at] == b'S' {
-            data = Some(capture[at + 3..at + 3 + usize::from(slot.len)].to_vec());
-            at += 2 + usize::from(slot.len);
-        }
-        at += 1;
-        if slot.own {
-            out.push((data, slot.top, slot.last));
-        }
+        _ => false,
     }
-    out
+}
+
+fn compare(number: u64, compared: &mut Compared) {
+    let mut stream = Stream::default();
+    let mut memory = vec![0xAB; PACKET_MEMORY];
+    let mut model = Model {
+        held: None,
+        memory: memory.clone(),
+    };
+    for (data, t, last) in own_slots(&capture(number)) {
+        let (due, taken) = match data {
+            None => (model.lose(), stream.lose()),
+            Some(data) => (
+                model.take(&data, t.into(), last.into()),
+                stream.take(&data, t, last, &mut memory),
+            ),
+        };
+        let items = items_of(&taken, &memory);
+        assert!(items == due, "capture {number}");
+        assert!(memory == model.memory, "capture {number}");
+        let held = model.held.as_deref();
+        let same = same_held(stream.held, &memory, held);
+        assert!(same, "capture {number}: {:?}", stream.held);
+        compared.slots += 1;
+        compared.holding += usize::from(held.is_some_and(|bytes| !bytes.is_empty()));
+        let is_note = |item: &&Item| matches!(item, Item::Note(_));
+        let notes = due.iter().filter(is_note).count();
+        compared.notes += notes;
+        compared.packets += due.len() - notes;
+    }
 }
 
 #[test]
@@ -193,42 +222,23 @@ fn machine_and_model_agree() {
         (MAX_PACKET, SLOT_AT, PACKET_MEMORY),
         (16_384, 16_384, 21_433)
     );
-    let (mut slots, mut packets, mut notes) = (0, 0, 0);
-    for number in 0..3_000 {
-        if !["slot noise", "boundaries of held bytes"].contains(&family(number)) {
-            continue;
-        }
-        let mut stream = Stream::default();
-        let mut memory = vec![0xAB; PACKET_MEMORY];
-        let mut model = Model {
-            held: None,
-            memory: memory.clone(),
-        };
-        for (data, t, last) in own_slots(&capture(number)) {
-            let (due, taken) = match data {
-                None => (model.lose(), stream.lose()),
-                Some(data) => (
-                    model.take(&data, t.into(), last.into()),
-                    stream.take(&data, t, last, &mut memory),
-                ),
-            };
-            let items = items_of(&taken, &memory);
-            assert!(items == due, "capture {number}");
-            assert!(memory == model.memory, "capture {number}");
-            match (stream.held, &model.held) {
-                (Held::Searching, None) => {}
-                (Held::Bytes { from, len }, Some(bytes)) => {
-                    assert!(memory[from..from + len] == bytes[..], "capture {number}");
-                }
-                (held, _) => panic!("capture {number}: {held:?}"),
-            }
-            slots += 1;
-            let is_note = |item: &&Item| matches!(item, Item::Note(_));
-            notes += due.iter().filter(is_note).count();
-            packets += due.len();
-        }
+    let families = [
+        "packets damaged",
+        "slots damaged",
+        "slot noise",
+        "boundaries of held bytes",
+    ];
+    let mut compared = Compared::default();
+    for number in (0..3_000).filter(|&number| families.contains(&family(number))) {
+        compare(number, &mut compared);
     }
-    packets -= notes;
-    println!("{slots} slots, {packets} packets, {notes} notes");
+    let Compared {
+        slots,
+        packets,
+        notes,
+        holding,
+    } = compared;
+    println!("{slots} slots, {packets} packets, {notes} notes; {holding} slots left bytes");
     assert!(slots > 10_000 && packets > 30_000 && notes > 5_000);
+    assert!(holding > 5_000);
 }

@@ -1,7 +1,9 @@
-//! Boundary cases, one after another: held bytes against t and last, and packets cut at every byte.
+//! Boundary cases, one after another: held bytes against t and last, also beside a bad first byte, and
+//! packets cut at every byte.
 
 use super::broadcast::{assemble, Broadcast};
 use super::commands::{self, Commands};
+use super::damage::spoil_first;
 use super::layout::{self, set_pointers, FramePlan};
 use super::packet::Item;
 use super::prng::Prng;
@@ -11,10 +13,12 @@ use crate::slots::NO_POINTER;
 const LEN: usize = 1_870;
 /// BPSK 1/3: 24 live slots of 1,870 bytes.
 const SHORTEST: [(u8, u8); 1] = [(0x11, 120)];
+/// Pairs of live slots in such a frame, and frames of undamaged headers in a capture.
+const PAIRS: usize = 12;
 const FRAMES: usize = 4;
 const CASES: usize = 7 * 11 * 10 * 4;
 /// Captures that go through all cases of held bytes.
-pub const HELD_CAPTURES: u64 = (CASES / (FRAMES * 12) + 1) as u64;
+pub const HELD_CAPTURES: u64 = (CASES / (FRAMES * PAIRS) + 1) as u64;
 
 fn config() -> Config {
     Config {
@@ -29,43 +33,48 @@ fn full_frame(rng: &mut Prng) -> FramePlan {
     layout::full_frame_of(rng, config().stream_id, &SHORTEST)
 }
 
-/// Pairs of slots: the first ends with some bytes of a packet, the second goes on as the case says.
+/// Pairs of slots: the first ends with some bytes of a packet, the second goes on as the case says. In
+/// one frame more, a header of each pair has a bad first byte.
 pub fn held(number: u64) -> Commands {
     let mut rng = Prng::new(number);
-    let mut case = number as usize * FRAMES * 12 % CASES;
+    let number = number as usize;
     let mut out = vec![commands::start(&config())];
-    let mut second = None;
-    for _ in 0..FRAMES {
-        let plan = full_frame(&mut rng);
-        let (mut block, mut slots) = (plan.block, Vec::new());
-        for (s, slot) in plan.slots.iter().enumerate() {
-            if !slot.own {
-                slots.extend(commands::slot(&[]));
-                continue;
-            }
-            let (data, top, last) = match second.take() {
-                Some(after) => after,
-                None => {
-                    let (first, after) = pair(case % CASES);
-                    case += 1;
-                    second = Some(after);
-                    first
-                }
-            };
-            set_pointers(&mut block, s, top, last);
-            slots.extend(commands::slot(&data));
-        }
-        out.push(commands::frame(&block));
-        out.push(slots);
+    let pairs = |from: usize| -> Vec<[Slot; 2]> { (from..from + PAIRS).map(pair).collect() };
+    for frame in number * FRAMES..(number + 1) * FRAMES {
+        out.extend(frame_of(&mut rng, &pairs(frame * PAIRS)));
     }
+    let mut spoilt = pairs(number * PAIRS);
+    for pair in &mut spoilt {
+        let (data, top, _) = &mut pair[rng.below(2)];
+        spoil_first(&mut rng, data, usize::from(*top));
+    }
+    out.extend(frame_of(&mut rng, &spoilt));
     out
 }
 
+/// Data, t and last.
 type Slot = (Vec<u8>, u16, u16);
 
-/// The two slots of a case.
-fn pair(case: usize) -> (Slot, Slot) {
-    let (held, case) = (case % 7, case / 7);
+/// A frame of these slots.
+fn frame_of(rng: &mut Prng, pairs: &[[Slot; 2]]) -> Commands {
+    let plan = full_frame(rng);
+    let (mut block, mut slots) = (plan.block, Vec::new());
+    let mut next = pairs.iter().flatten();
+    for (s, slot) in plan.slots.iter().enumerate() {
+        if !slot.own {
+            slots.extend(commands::slot(&[]));
+            continue;
+        }
+        let (data, top, last) = next.next().expect("a slot for each live one");
+        set_pointers(&mut block, s, *top, *last);
+        slots.extend(commands::slot(data));
+    }
+    vec![commands::frame(&block), slots]
+}
+
+/// The two slots of a case; behind the last case comes the first.
+fn pair(case: usize) -> [Slot; 2] {
+    let (held, case) = (case % 7, case % CASES / 7);
     let (which_total, case) = (case % 11, case / 11);
     let (which_top, which_last) = (case % 10, case / 10);
     let ends = [
@@ -104,7 +113,7 @@ fn pair(case: usize) -> (Slot, Slot) {
     let right = fill(&mut second);
     let last = [right, NO_POINTER, LEN as u16, top as u16][which_last];
     let first_end = if held == 0 { LEN } else { LEN - held } as u16;
-    ((first, 0, first_end), (second, top as u16, last))
+    [(first, 0, first_end), (second, top as u16, last)]
 }
 
 /// Fills the slot up with packets; gives the last pointer.

@@ -1,11 +1,13 @@
-//! Damage inside slots: in every field of packets, in pointers, and in the order of slots.
+//! Damage inside slots: in every field of packets, in first bytes, in pointers, and in the order of slots.
 
-use super::broadcast::{assemble, capacity, head_len, Broadcast, Losses};
+use super::broadcast::{assemble, capacity, head_len, Broadcast, Frame, Losses};
 use super::commands::Commands;
 use super::layout::{self, FramePlan};
 use super::packet::{tlv, Item, Spec};
 use super::prng::Prng;
 use super::sender::{self, Config, Sender};
+use crate::fields::be16;
+use crate::slots::{packet_total, TLV_HEADER};
 
 /// A broadcast whose packets are damaged here and there.
 pub fn packets(seed: u64, most: usize) -> Broadcast {
@@ -74,7 +76,7 @@ fn stray(rng: &mut Prng, config: &Config) -> Vec<u8> {
 /// Changes one field.
 pub fn damage_spec(rng: &mut Prng, spec: &mut Spec) {
     let len = spec.bytes().len() - 4;
-    match rng.below(24) {
+    match rng.below(25) {
         0 => spec.header_type = rng.byte(),
         1 => spec.cut = Some(rng.below(8)),
         2 => spec.cut = Some(rng.below(len + 1)),
@@ -96,33 +98,77 @@ pub fn damage_spec(rng: &mut Prng, spec: &mut Spec) {
         15 => spec.counter = rng.pick(&[0, 1, 2, 254, 255]),
         16 => spec.counter = spec.counter.wrapping_add(rng.pick(&[1, 255])),
         17 => spec.mpu ^= 1 << rng.below(32),
-        18 => {
-            let keep = rng.below(spec.body.len() + 1).min(rng.below(20));
-            spec.body.truncate(keep);
+        18 => spec.tlv_first = bad_first(rng),
+        _ => damage_body(rng, &mut spec.body),
+    }
+}
+
+/// Shorter, longer, or with a wrong bit in its fields or aggregate lengths.
+fn damage_body(rng: &mut Prng, body: &mut Vec<u8>) {
+    match rng.below(6) {
+        0 => {
+            let keep = rng.below(body.len() + 1).min(rng.below(20));
+            body.truncate(keep);
         }
-        19 => spec.body.push(0),
-        20 => spec.body.clear(),
-        21 => {
+        1 => body.push(0),
+        2 => body.clear(),
+        3 => {
             let more = rng.pick(&[1, 1_000, 12_000]);
-            spec.body.extend(vec![0; more]);
+            body.extend(vec![0; more]);
         }
         _ => {
-            // Fields, aggregate lengths.
-            let at = rng.below(spec.body.len().clamp(1, 16));
-            if let Some(byte) = spec.body.get_mut(at) {
+            let at = rng.below(body.len().clamp(1, 16));
+            if let Some(byte) = body.get_mut(at) {
                 *byte ^= 1 << rng.below(8);
             }
         }
     }
 }
 
-/// Damages slots and pointers of a broadcast: bits, pointers, slots doubled, changed over, left out.
+/// A first byte that no header may have. Most look like a header at a glance: reserved bits changed, the
+/// top bit set, or one bit wrong.
+pub fn bad_first(rng: &mut Prng) -> u8 {
+    match rng.below(10) {
+        0..=3 => rng.range(0x40, 0x7E) as u8,
+        4..=6 => rng.range(0x80, 0xFF) as u8,
+        7 | 8 => 0x7F ^ 1 << rng.below(8),
+        _ => rng.below(0x40) as u8,
+    }
+}
+
+/// Where headers begin from `t` on, by the packets' lengths alone; none if `t` points nowhere.
+pub fn headers(data: &[u8], t: usize) -> Vec<usize> {
+    let (mut places, mut at) = (Vec::new(), t);
+    while at < data.len() {
+        places.push(at);
+        if data.len() - at < TLV_HEADER {
+            break;
+        }
+        at += packet_total(data, at);
+    }
+    places
+}
+
+/// Gives a header from `t` on a bad first byte: the first, one of the last two (the unfinished packet
+/// and the last complete one, where a slot has both), or any.
+pub fn spoil_first(rng: &mut Prng, data: &mut [u8], t: usize) {
+    let places = headers(data, t);
+    let Some(end) = places.len().checked_sub(1) else {
+        return;
+    };
+    let any = rng.below(places.len());
+    let which = rng.pick(&[0, end.saturating_sub(1), end, end, any]);
+    data[places[which]] = bad_first(rng);
+}
+
+/// Damages slots and pointers of a broadcast: bits, first bytes, pointers, slots doubled, changed over,
+/// left out.
 pub fn slots(seed: u64, broadcast: &mut Broadcast) {
     let mut rng = Prng::new(seed);
     for _ in 0..rng.range(1, 12) {
         let i = rng.below(broadcast.own.len());
         let (frame, slot) = (broadcast.own[i].frame, broadcast.own[i].slot);
-        match rng.below(8) {
+        match rng.below(11) {
             0 | 1 => {
                 let data = &mut broadcast.frames[frame].slots[slot];
                 let at = rng.below(data.len());
@@ -130,6 +176,11 @@ pub fn slots(seed: u64, broadcast: &mut Broadcast) {
             }
             2..=4 => damage_pointers(&mut rng, broadcast, frame, slot),
             5 | 6 => move_slot(&mut rng, broadcast, i),
+            7..=9 => {
+                let Frame { block, slots } = &mut broadcast.frames[frame];
+                let t = be16(block, pointers_at(slot).start);
+                spoil_first(&mut rng, &mut slots[slot], t.into());
+            }
             _ => {
                 let data = &mut broadcast.frames[frame].slots[slot];
                 rng.fill(data);

@@ -2,7 +2,7 @@
 
 use super::broadcast::{assemble, capacity, Broadcast};
 use super::commands::{self, Commands};
-use super::damage::plans;
+use super::damage::{plans, spoil_first};
 use super::layout::{self, set_pointers};
 use super::packet::Item;
 use super::prng::Prng;
@@ -85,7 +85,8 @@ fn random_piece(rng: &mut Prng, sender: &mut Sender, k: usize, last: &mut Last) 
     Item::Flow(Box::new(spec))
 }
 
-/// Frames of own slots built one by one, so that held bytes, header, t and last fit or not by chance.
+/// Frames of own slots built one by one, so that held bytes, first bytes, header, t and last fit or not
+/// by chance.
 pub fn slots(seed: u64) -> Commands {
     let mut rng = Prng::new(seed);
     let config = sender::config(&mut rng);
@@ -155,6 +156,9 @@ impl SlotBuilder {
                 self.held.clear();
             }
         }
+        if rng.chance(1, 4) {
+            spoil_first(rng, &mut data, top.into());
+        }
         if rng.chance(1, 12) {
             let near = top.wrapping_add(rng.pick(&[1, 0xFFFF]));
             top = rng.pick(&[near, 0, 1, 2, 3, 0xFFFF, len as u16]);
@@ -203,9 +207,6 @@ impl SlotBuilder {
         };
         let mut packet = vec![0; 4 + len];
         packet[0] = 0x7F;
-        if rng.chance(1, 150) {
-            packet[0] = rng.byte();
-        }
         packet[1] = rng.pick(&[3, 3, 0xFF]);
         packet[2..4].copy_from_slice(&(len as u16).to_be_bytes());
         if len >= 20 {

@@ -2,6 +2,7 @@
 #![allow(dead_code)]
 
 use second::calls::{self, show, Event, Receiver};
+use second::control_block::{decode, SlotPlan};
 use second::generate::broadcast::{Broadcast, Losses};
 use second::generate::sender::{Config, Sent};
 use second::packets::{UnitFields, MAX_IDS};
@@ -207,6 +208,37 @@ pub fn read_packets(ids: &[u16], packets: &[Vec<u8>]) -> Read {
         feed(&mut station, &data, top, last, &mut read);
     }
     read
+}
+
+/// Data (none if lost), t and last of each own live slot of a capture; a lost frame counts as a lost slot.
+pub fn own_slots(capture: &[u8]) -> Vec<(Option<Vec<u8>>, u16, u16)> {
+    let be16 = |at: usize| u16::from_be_bytes([capture[at], capture[at + 1]]);
+    let (mut out, mut at) = (Vec::new(), 42);
+    let mut slots = [SlotPlan::default(); 120].into_iter();
+    while at < capture.len() {
+        if capture[at] == b'F' {
+            let block = capture[at + 1..at + 1_179].try_into().expect("1,178 bytes");
+            slots = decode(block, be16(1)).expect("a legal block").into_iter();
+            at += 1_179;
+            continue;
+        }
+        if capture[at] == b'X' {
+            out.push((None, 0, 0));
+            at += 1;
+            continue;
+        }
+        let slot = slots.next().expect("120 slots");
+        let mut data = None;
+        if capture[at] == b'S' {
+            data = Some(capture[at + 3..at + 3 + usize::from(slot.len)].to_vec());
+            at += 2 + usize::from(slot.len);
+        }
+        at += 1;
+        if slot.own {
+            out.push((data, slot.top, slot.last));
+        }
+    }
+    out
 }
 
 /// Cuts packets and padding into slots of 1,870 bytes by the cutter.

@@ -2,6 +2,7 @@
 
 use second::control_block::DATA_LENGTHS;
 use second::cutter::cut;
+use second::generate::damage::{bad_first, spoil_first};
 use second::generate::packet::tlv;
 use second::generate::prng::Prng;
 
@@ -77,20 +78,16 @@ fn slots_that_are_cut() {
     assert!(cut > 5_000);
 }
 
-/// Spoils a run: a byte less or more, a first byte, any byte.
+/// Spoils a run: a byte less or more, a bad first byte of a packet in it or of one behind it, any byte.
 fn spoil(rng: &mut Prng, run: &mut Vec<u8>) {
-    match rng.below(4) {
+    match rng.below(6) {
         0 => {
             let less = rng.pick(&[1, 2, 3, 4, 5, 100]);
             run.truncate(run.len() - less);
         }
-        1 => run.extend(rng.pick(&[
-            &[0x7F][..],
-            &[0x7F, 3, 0],
-            &[0x7F, 3, 0, 1],
-            &[0x3F, 3, 0, 0],
-        ])),
-        2 => run[0] = rng.byte(),
+        1 => run.extend(rng.pick(&[&[0x7F][..], &[0x7F, 3, 0], &[0x7F, 3, 0, 1], &[0x40]])),
+        2 | 3 => spoil_first(rng, run, 0),
+        4 => run.extend([bad_first(rng), 3, 0, 0]),
         _ => {
             let at = rng.below(run.len());
             run[at] ^= 1 << rng.below(8);
