@@ -245,6 +245,35 @@ fn cutter_in_order() {
     assert!(out == run);
 }
 
+/// A bad first byte anywhere in the run is 75, also behind the slot that is asked for, and before the
+/// other refusals.
+#[test]
+fn cutter_takes_7f_alone() {
+    let totals = [100, 4, 1_766, 1_000, 870, 1_870];
+    let mut run = Vec::new();
+    let mut headers = Vec::new();
+    for total in totals {
+        headers.push(run.len());
+        run.extend(tlv(0xFF, &vec![0; total - 4]));
+    }
+    assert_eq!((run.len(), headers[5]), (3 * 1_870, 2 * 1_870));
+    for at in headers {
+        for byte in 0..=255 {
+            run[at] = byte;
+            let mut out = vec![0xAA; 1_870];
+            let (slot, length) = (cut(&run, 1_870, 0, &mut out), cut(&run, 1, 9, &mut []));
+            if byte == 0x7F {
+                assert_eq!((slot, length), (Ok((0, 1_870)), Err(76)));
+                assert!(out == run[..1_870]);
+            } else {
+                assert_eq!((slot, length), (Err(75), Err(75)), "{byte:#x} at {at}");
+                assert!(out.iter().all(|&byte| byte == 0xAA));
+            }
+        }
+        run[at] = 0x7F;
+    }
+}
+
 #[test]
 fn cutter_pointers() {
     let run = tlv(0xFF, &vec![0; 2 * 1_870 - 4]);

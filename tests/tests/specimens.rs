@@ -1,11 +1,13 @@
-//! The specimens of document 01, starred or not, and its traps.
+//! The specimens of document 01, starred or not, and its traps; every first byte of a TLV header.
 
 mod common;
 
-use common::{block, flow, mmtp, mpu, read_packets, signalling, tlv};
+use common::{
+    block, cut_padded, feed, flow, mmtp, mpu, read_packets, signalling, station, tlv, Read,
+};
 use second::control_block::decode;
 use second::packets::{read, Reading, Watch};
-use second::slots::{sound, Held, Stream, Taken, PACKET_MEMORY};
+use second::slots::{sound, Held, Stream, Taken, PACKET_MEMORY, SLOT_AT};
 
 /// MFU fields: movie fragment, sample, offset, priority, dependency.
 fn mfu(fragment: u32, sample: u32, bytes: &[u8]) -> Vec<u8> {
@@ -133,6 +135,160 @@ fn sound_slots() {
     let mut data = slot(0, 1_866);
     data[0] = 0x40;
     assert_eq!(sound(&data, 0, 1_870), None);
+}
+
+/// A slot of 1,870 bytes and its pointers.
+struct Row {
+    data: Vec<u8>,
+    t: usize,
+    last: u16,
+    /// Where each header stands, and one past the last complete packet.
+    headers: Vec<usize>,
+    end: usize,
+}
+
+/// The last `t` bytes of a packet, then packets of these lengths; the slot's end cuts the last one.
+fn row(t: usize, totals: &[usize]) -> Row {
+    let mut data = vec![0x11; t];
+    let (mut headers, mut end) = (Vec::new(), t);
+    for &total in totals {
+        headers.push(data.len());
+        data.extend(tlv(0xFF, &vec![0; total - 4]));
+        if data.len() <= 1_870 {
+            end = data.len();
+        }
+    }
+    assert!(data.len() >= 1_870 && headers.iter().all(|&at| at < 1_870));
+    data.truncate(1_870);
+    Row {
+        data,
+        t,
+        last: if end == 0 { 0xFFFF } else { end as u16 },
+        headers,
+        end,
+    }
+}
+
+/// Headers at every place that a header can have: at t, between packets, of the last complete packet,
+/// of an unfinished one, and so near the slot's end that only 1, 2 or 3 bytes of them are there.
+fn rows() -> Vec<Row> {
+    let mut rows = vec![
+        row(0, &[100, 200, 1_570]),
+        row(0, &[1_870]),
+        row(0, &[3_000]),
+        row(10, &[3_000]),
+    ];
+    for tail in [1, 2, 3, 4, 40] {
+        rows.push(row(0, &[100, 200, 1_570 - tail, 1_000]));
+        rows.push(row(10, &[100, 200, 1_560 - tail, 1_000]));
+        rows.push(row(1_870 - tail, &[1_000]));
+    }
+    rows
+}
+
+/// Each row with every byte in the place of each first byte.
+fn every_first_byte(mut check: impl FnMut(&Row, u8)) {
+    let mut checked = 0;
+    for mut row in rows() {
+        for at in row.headers.clone() {
+            for byte in 0..=255 {
+                row.data[at] = byte;
+                check(&row, byte);
+                checked += 1;
+            }
+            row.data[at] = 0x7F;
+        }
+    }
+    assert_eq!(checked, (6 + 5 * (4 + 4 + 1)) * 256);
+}
+
+#[test]
+fn only_7f_begins_a_header() {
+    every_first_byte(|row, byte| {
+        let due = (byte == 0x7F).then_some(row.end);
+        assert_eq!(sound(&row.data, row.t as u16, row.last), due, "{byte:#x}");
+    });
+}
+
+/// A stream that holds 20 bytes of a packet with `left` more to come, or no byte if none is.
+fn holding(left: usize) -> (Stream, Vec<u8>) {
+    let mut memory = vec![0x22; PACKET_MEMORY];
+    memory[..20].copy_from_slice(&tlv(0xFF, &vec![0x22; 16 + left])[..20]);
+    let mut stream = Stream::default();
+    let len = if left == 0 { 0 } else { 20 };
+    stream.held = Held::Bytes { from: 0, len };
+    (stream, memory)
+}
+
+#[test]
+fn any_other_first_byte_is_41() {
+    every_first_byte(|row, byte| {
+        let (mut stream, mut memory) = holding(row.t);
+        let before = memory[..SLOT_AT].to_vec();
+        let taken = stream.take(&row.data, row.t as u16, row.last, &mut memory);
+        let mut due = Taken::default();
+        if byte != 0x7F {
+            due.note = 41;
+            assert_eq!((taken, stream.held), (due, Held::Searching), "{byte:#x}");
+            assert!(memory[..SLOT_AT] == before);
+            return;
+        }
+        due.continued = if row.t == 0 { 0 } else { 20 + row.t };
+        (due.at, due.end) = (SLOT_AT + row.t, SLOT_AT + row.end);
+        let (from, len) = (due.end, 1_870 - row.end);
+        assert_eq!((taken, stream.held), (due, Held::Bytes { from, len }));
+    });
+}
+
+/// A long unit ends in the slot, a short one follows it, and the short one's header is changed: neither
+/// is given, and the next slot is read as after a loss.
+#[test]
+fn nothing_is_read_beside_a_bad_first_byte() {
+    let sent = [
+        signalling(9, 1, 0, 0, &[1; 2_000]),
+        signalling(9, 2, 0, 0, &[2]),
+    ];
+    let mut slots = cut_padded(&sent);
+    slots.extend(cut_padded(&[signalling(9, 3, 0, 0, &[3])]));
+    let t = usize::from(slots[1].1);
+    assert_eq!((slots.len(), t), (3, sent[0].len() - 1_870));
+    for byte in 0..=255 {
+        slots[1].0[t] = byte;
+        let (mut station, mut got) = (station(&[9]), Read::default());
+        for (data, top, last) in &slots {
+            feed(&mut station, data, *top, *last, &mut got);
+        }
+        let psns: Vec<u32> = got.units.iter().map(|unit| unit.psn).collect();
+        let due = if byte == 0x7F {
+            (vec![], vec![1, 2, 3])
+        } else {
+            (vec![41], vec![3])
+        };
+        assert_eq!((got.numbers(), psns), due, "{byte:#x}");
+    }
+}
+
+/// Bytes before t, and slots in which no packet starts, are not looked at.
+#[test]
+fn where_no_header_stands_any_byte_may() {
+    for byte in 0..=255 {
+        let mut row = row(10, &[100, 1_760]);
+        row.data[..10].fill(byte);
+        assert_eq!(sound(&row.data, 10, 1_870), Some(1_870), "{byte:#x}");
+        let (mut stream, mut memory) = holding(10);
+        let taken = stream.take(&row.data, 10, 1_870, &mut memory);
+        assert_eq!((taken.note, taken.continued), (0, 30), "{byte:#x}");
+        assert!(memory[20..30] == [byte; 10]);
+        let data = vec![byte; 1_870];
+        for (left, last, continued, len) in [(1_870, 1_870, 1_890, 0), (1_871, 0xFFFF, 0, 1_890)] {
+            assert_eq!(sound(&data, 0xFFFF, last), Some(1_870), "{byte:#x}");
+            let (mut stream, mut memory) = holding(left);
+            let taken = stream.take(&data, 0xFFFF, last, &mut memory);
+            assert_eq!((taken.note, taken.continued), (0, continued), "{byte:#x}");
+            assert_eq!(stream.held, Held::Bytes { from: 0, len });
+            assert!(memory[20..1_890] == data);
+        }
+    }
 }
 
 #[test]
