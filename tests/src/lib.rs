@@ -1,8 +1,7 @@
 //! The second decoder: control block and slots to TLV packets, to MMTP packets, to units.
 //!
-//! It is written from document 01 alone, as request 2 of document 02 changes it, and shares no line with
-//! the proved library, so that a difference between the two points at a misreading. One module for each
-//! section of document 01.
+//! It is written from documents 01 and 02 alone and shares no line with the proved library, so that a
+//! difference between the two points at a misreading. One module for each section of document 01.
 
 pub mod calls;
 pub mod capture;

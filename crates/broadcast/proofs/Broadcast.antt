@@ -31,6 +31,8 @@ use Rattle.tlv.specs.Held.{endWithin, endBeyond, heldTotal, heldEnd, continuati
 use Rattle.tlv.specs.Run.{
   Slot,
   searching,
+  held,
+  given,
   kept as kept-tail,
   readFrom,
   finished,
@@ -68,9 +70,13 @@ use Rattle.receiver.specs.Start.{refusalOf, startOf, twiceBelow, twice, before}
 use Rattle.receiver.specs.Slot.{wrongLength}
 use Rattle.broadcast.specs.Account.{readOf, events, account}
 use Rattle.broadcast.specs.Carried.{inputs, rowInputs, carriedUnits, intactUnits, contents, Few}
-use Rattle.broadcast.specs.Drains.{Shown, note, unit, strip}
-use Rattle.broadcast.specs.Calls.{Made}
-use Rattle.broadcast.specs.Frames.{Whole, Damage, none, slotsFrom, ownSlots, layoutIn}
+use Rattle.intake.specs.Slot.{heldBytes}
+use Rattle.delivery.specs.declared.event.Event.the-variants.{Nothing}
+use Rattle.receiver.specs.declared.state.State.{State}
+use Rattle.receiver.specs.Next.{nextOf}
+use Rattle.broadcast.specs.Drains.{Shown, note, unit, strip, Drains, stops, notes, units, HeldIs}
+use Rattle.broadcast.specs.Calls.{Machine, frame, slot as slot-call, next, Did, did, Made}
+use Rattle.broadcast.specs.Frames.{Whole, Damage, none, slotAt, slotsFrom, ownSlots, layoutIn}
 use Rattle.broadcast.specs.Demand3.{started, Reads, shownOf, refusedOf, NoNote, unitsOf, slotsOf, kept}
 use Rattle.broadcast.specs.Example.{slot, first, last, joined}
 use Rattle.broadcast.specs.Broadcast.{
@@ -90,11 +96,14 @@ use Rattle.broadcast.specs.Broadcast.{
   Shows,
   slotLost,
   frameLost,
+  ByteHeld,
   BroadcastClaims,
 }
 use Rattle.broadcast.specs.Machines.{At}
 use Rattle.broadcast.proofs.SlotCalls.{SlotsFit}
-use Rattle.broadcast.proofs.Reading.{FramesFit}
+use Rattle.broadcast.proofs.Script.{did-next}
+use Rattle.broadcast.proofs.Items.{own-item}
+use Rattle.broadcast.proofs.Reading.{FramesFit, framed, frame-did, frame-at}
 use Rattle.broadcast.proofs.Arrivals.{damage-account}
 use Rattle.broadcast.proofs.Demand3.{start-at, shows-account, made, demand-3}
 
@@ -257,6 +266,45 @@ module _ (p c : List ℕ) (m : Memories p c) where
       (a .no-note) (a .few) in
       r .damaged ys h .units-left ∙ ap (λ xs. contents (intactUnits (kept d) (carriedUnits config xs))) own-slots
 
+-- slot 0 of frame 0 over lists: its first packet opens a unit, its last byte is held
+byte-step : let w = slot-step {A = ℕ × ℕ} searching (given (0, 0) (slotAt layout 0 (opening first (alone 9)))) in
+    (w .state ≡ held ((0, 0) ∷ []) (0x7f ∷ [])) × (map strip (events config (λ k. fresh) (w .events)) ≡ [])
+unfolding be goodFirst total complete tooLong marked cutBy cut endFrom lastPointer sound kept-tail readFrom arrived slot-step flowOf
+    compressedOf behind compressedHeader headerOf plain payloadStart fixedBytes extensionBytes extensionLength lookupOf firstFrom readingOf
+    headRead lookedUp bodyRead indicatorOf fragmentTypeOf mpuOf signallingOf parsedOf counterFits aggregationFits unitsFit tested
+    payloadOf piecesOf fieldBytes fieldsOf pieceOf singleFits agrees nextPsn heard gap unheard interrupted begun counterFollows
+    grown extended followed acted joinOf notesOf step readOf events config opening
+byte-step = (refl, refl)
+
+-- where calls of next show nothing, the first says so
+none-shown : {p : List ℕ} {st st' : State} {c c' : List ℕ} {es : List Shown} → Drains p st c es st' c' → es ≡ []
+    → nextOf st p c ≡ (record { event = Nothing; state = st' }, c')
+none-shown (stops q) e = q
+none-shown (notes q d) e = let z : _≡_ {A = ℕ} 0 1 = cc in absurd (omega arith)
+none-shown (units q d) e = let z : _≡_ {A = ℕ} 0 1 = cc in absurd (omega arith)
+
+abbrev OneByte : Machine → Type 0
+OneByte m = (m .state .held .on ≡ true) × (heldBytes (m .state .held) (m .packet) ≡ 0x7f ∷ [])
+
+byte-held : ByteHeld
+unfolding config wrongLength
+byte-held p c m =
+    let d = opening first (alone 9) in
+    let a = begins p c m in
+    let s = started config p c in
+    let e : decodeOf block 0x0102 .refusal ≡ 0 = ap (λ (x : Decoded). x .refusal) block-layout in
+    let f : did (frame block) s .machine ≡ framed config s layout =
+    ap (λ (x : Did). x .machine) (frame-did config s searching (λ k. fresh) blankLayout block a e)
+    ∙ ap (λ (x : Decoded). framed config s (x .layout)) block-layout in
+    let i =
+    own-item config (framed config s layout) searching (λ k. fresh) layout (0, 0) 0 d
+    (frame-at config s searching (λ k. fresh) blankLayout layout a) (omega arith) refl (unfold opening in refl) in
+    let h = subst (HeldIs (i .state .held) _) (byte-step .0) (i .at .tracks .held) in
+    let r = did (slot-call d) (framed config s layout) .machine in
+    let n = did-next (r .state) (r .packet) (r .collecting) _ _ (none-shown (i .drains) (byte-step .1)) in
+    subst (λ (x : Machine). OneByte (did next (did (slot-call d) x .machine) .machine)) (sym f)
+    (subst (λ (x : Did). OneByte (x .machine)) (sym n) (h .0, h .2))
+
 met : Met
 met p c m = let x = readable p c m none in (x .0, assumed p c m (x .0) (x .1))
 
@@ -274,4 +322,5 @@ broadcast-claims = (
   shows-all frameLost _ (accounts .2),
   λ p c m ys h. leaves p c m slotLost ys h ∙ carried .1,
   λ p c m ys h. leaves p c m frameLost ys h ∙ carried .2,
+  byte-held,
 )

@@ -13,9 +13,10 @@ use Rattle.reassembly.specs.Run.{Content}
 use Rattle.receiver.specs.Start.{startOf}
 use Rattle.broadcast.specs.Carried.{Few}
 use Rattle.broadcast.specs.Drains.{Shown, note, unit}
-use Rattle.broadcast.specs.Calls.{Made}
+use Rattle.intake.specs.Slot.{heldBytes}
+use Rattle.broadcast.specs.Calls.{frame, slot, next, Made, own, machineAfterAll}
 use Rattle.broadcast.specs.Frames.{Frame, Whole, Damage, none}
-use Rattle.broadcast.specs.Demand3.{Reads, shownOf, refusedOf, NoNote, unitsOf, slotsOf}
+use Rattle.broadcast.specs.Demand3.{started, Reads, shownOf, refusedOf, NoNote, unitsOf, slotsOf}
 use Rattle.broadcast.specs.Example.{packet, first, last, content, joined}
 
 -- stream 0x0102, CID 2, packet_ids 17 and 18, units of up to 100 bytes
@@ -137,6 +138,13 @@ Left d us =
     (p c : List ℕ) → Memories p c → (ys : List Made) → Reads config frames d p c ys
     → unitsOf (shownOf config frames d p c ys) ≡ us
 
+-- HeldHeaders is not empty: read up to its slot 0, frame 0 leaves the first header byte of a packet held
+abbrev pub ByteHeld : Type 0
+ByteHeld =
+    (p c : List ℕ) → Memories p c
+    → let m = machineAfterAll (started config p c) (own (frame block) ∷ own (slot (opening first (alone 9))) ∷ own next ∷ []) in
+    (m .state .held .on ≡ true) × (heldBytes (m .state .held) (m .packet) ≡ 0x7f ∷ [])
+
 abbrev pub BroadcastClaims : Type 0
 BroadcastClaims =
     -- the block's layout
@@ -150,3 +158,4 @@ BroadcastClaims =
     × FrameLost
     × Left slotLost (whole 10 ∷ whole 11 ∷ joined ∷ whole 12 ∷ [])
     × Left frameLost (whole 9 ∷ joined ∷ whole 12 ∷ [])
+    × ByteHeld
