@@ -52,7 +52,8 @@ use Rattle.receiver.specs.ReadOn.{packet-kept}
 use Rattle.broadcast.specs.Drains.{HeldIs}
 use Rattle.broadcast.specs.Pending.{cursorLeaves}
 use Rattle.broadcast.specs.SlotClaims.{Short, CursorGood, Same, slotFrom, Advances}
-use Rattle.broadcast.specs.Calls.{Machine, Call, frame, lost-frame, slot, lost-slot, next, did, Made, own, shows, added, machineAfter, machineAfterAll}
+use Rattle.broadcast.specs.Calls.{Machine, Call, frame, lost-frame, slot, lost-slot, next, did}
+use Rattle.broadcast.specs.Calls.{Made, own, shows, added, machineAfter, machineAfterAll}
 use Rattle.broadcast.specs.Demand3.{started}
 use Rattle.broadcast.specs.HeldHeaders.{HeldHeader, HeldHeaders}
 use Rattle.broadcast.proofs.Advance.{advance, still-good}

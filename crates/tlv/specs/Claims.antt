@@ -5,7 +5,8 @@ use mathlib.Core.Bool.{Bool, true}
 use mathlib.Core.List.{List, [], _∷_, _++_, map}
 use lib.ListN.{length, replicate}
 use Rattle.tlv.specs.Packet.{marked, cut}
-use Rattle.tlv.specs.Run.{Slot, Labelled, State, searching, held, Arrival, lost, step, run, stateAfter, packets, Clean, intact, damaged}
+use Rattle.tlv.specs.Run.{Slot, Labelled, State, searching, held, Arrival, lost}
+use Rattle.tlv.specs.Run.{step, run, stateAfter, packets, Clean, intact, damaged}
 use Rattle.tlv.specs.Row.{bytesOf, labelsOf, row, rowPackets}
 use Rattle.wire.specs.Lists.{sift, all}
 

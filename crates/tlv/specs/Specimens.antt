@@ -55,9 +55,9 @@ nullPacket = 0x7f ∷ 0xff ∷ 0 ∷ 0 ∷ []
 abbrev header : ℕ → List ℕ
 header x = 0x7f ∷ 3 ∷ 0 ∷ x ∷ []
 
--- small ones, by the readings of document 01 and of document 02, item 2
-abbrev pub Examples : Type 0
-Examples =
+-- first bytes, by document 02, item 2
+abbrev pub FirstBytes : Type 0
+FirstBytes =
     -- "a header is good only if its first byte is 0x7F" (document 02, item 2)
     (goodFirst 0x7f ≡ true)
     × (goodFirst 0x40 ≡ false)
@@ -71,8 +71,17 @@ Examples =
     -- bytes before t are not looked at, nor is a slot in which no packet starts
     × (sound (0x40 ∷ nullPacket) 1 5 ≡ true)
     × (sound (0x40 ∷ 0x40 ∷ []) 0xffff 0xffff ≡ true)
+
+pub first-bytes : FirstBytes
+first-bytes =
+    unfold be goodFirst total complete marked cutBy cut endFrom lastPointer sound in
+    (refl, refl, refl, refl, refl, refl, refl, refl, refl, refl)
+
+-- small ones, by the readings of document 01
+abbrev pub Examples : Type 0
+Examples =
     -- "last is the end of the last packet complete from t, else t, or 0xFFFF if t is 0"
-    × (sound (3 ∷ 0x7f ∷ []) 1 0xffff ≡ false)
+    (sound (3 ∷ 0x7f ∷ []) 1 0xffff ≡ false)
     × (sound (0x7f ∷ 3 ∷ []) 0 0xffff ≡ true)
     × (sound (0x7f ∷ 3 ∷ []) 0 0 ≡ false)
     -- "with t = 0xFFFF, last is 0xFFFF or L. Any other t is unsound"
@@ -97,4 +106,4 @@ pub examples : Examples
 examples =
     unfold be goodFirst total complete marked cutBy cut in
     unfold endFrom lastPointer sound endWithin endBeyond heldTotal heldEnd continuationOf in
-    (refl, refl, refl, refl, refl, refl, refl, refl, refl, refl, refl, refl, refl, refl, refl, refl, refl, refl, refl, refl, refl, refl, refl, refl, refl, refl)
+    (refl, refl, refl, refl, refl, refl, refl, refl, refl, refl, refl, refl, refl, refl, refl, refl)
