@@ -286,9 +286,9 @@ good-now : (h : Held) (p : List ℕ) (tl : Slot-state ℕ) → HeldIs h p tl →
 good-now h p slot-searching i m o = absurd (true≢false (sym o ∙ i))
 good-now h p (held ls b) i m o = (i .1, rw (i .2) m)
 
-heads-good : (m : Machine) → HoldsIn m → m .state .held .on ≡ true → HeldHeader m
+held-header : (m : Machine) → HoldsIn m → m .state .held .on ≡ true → HeldHeader m
 unfolding HoldsIn cursorLeaves
-heads-good m k o = go (m .state .cursor .reading) refl
+held-header m k o = go (m .state .cursor .reading) refl
   where
     go : (r : Bool) → m .state .cursor .reading ≡ r → HeldHeader m
     go true e = absurd (true≢false (sym (rw (k .good .held-none e) at o)))
@@ -298,4 +298,4 @@ heads-good m k o = go (m .state .cursor .reading) refl
 
 pub held-headers : HeldHeaders
 unfolding HoldsIn
-held-headers cfg p c xs o = heads-good _ (all-holds xs (started cfg p c) (start-holds cfg p)) o
+held-headers cfg p c xs o = held-header _ (all-holds xs (started cfg p c) (start-holds cfg p)) o
