@@ -1,14 +1,15 @@
 -- A unit's pieces: together they are the unit, and how many, how long and where they are.
-use Prim.Native.Nat.{ℕ, zero, suc, _+_, _-_, _*_, _/_, _<_, _≤_}
+use Prim.Native.Nat.{ℕ, zero, suc, _+_, _-_, _*_, _<_, _≤_}
 use mathlib.Core.Path.{_≡_, refl, sym, ap}
 use mathlib.Core.Bool.{Bool, true, false, cond}
 use mathlib.Core.List.{List, [], _∷_, append-nil}
-use native.Mathlib.Nat.{suc-mul, zero-mul, add-comm, div-eq-of-lt, div-eq-sub-div, lt-mul-div-succ}
+use native.Mathlib.Nat.{suc-mul, zero-mul, mul-suc, mul-one, add-comm}
 use native.Mathlib.Omega.{arith}
-use borrow.Author.Tests.{leb-true, leb-false, le-leb}
+use borrow.Author.Tests.{leb-true, leb-false, le-leb, lt-leb}
 use lib.ListN.{length, getD, take, drop, length-take, length-drop, take-append-drop}
 use lib.Dec.{leb}
 use lib.Seq.{take-all, drop-drop}
+use Rattle.wire.specs.Choice.{either}
 use Rattle.packer.specs.Pieces.{piecesBy, pieces, countBy, countOf}
 use Rattle.packer.specs.Packer.{joined}
 
@@ -27,47 +28,63 @@ pub count-pieces : (m : ℕ) (s : List ℕ) → length (pieces m s) ≡ countOf 
 unfolding pieces countOf
 count-pieces m s = count-by (length s) m s
 
-less-div : (m n : ℕ) → 0 < m → m ≤ n → n / m ≡ (n - m) / m + 1
-less-div m n p h = div-eq-sub-div p h
-
--- by division
-div-by : (n m len : ℕ) → 0 < m → 0 < len → len ≤ n → countBy n m len ≡ (len - 1) / m + 1
+-- where the count ends, and how it goes on
+pub count-none : (m len : ℕ) → countBy 0 m len ≡ 1
 unfolding countBy
-div-by zero m len p q h = absurd (omega arith)
-div-by (suc n) m len p q h = go (leb len m) refl (λ l. div-by n m (len - m) p (omega arith) (omega arith))
+count-none m len = refl
+
+pub count-last : (n m len : ℕ) → len ≤ m → countBy n m len ≡ 1
+unfolding countBy
+count-last zero m len h = refl
+count-last (suc n) m len h = rw (le-leb _ _ h)
+
+pub count-next : (n m len : ℕ) → m < len → countBy (suc n) m len ≡ suc (countBy n m (len - m))
+unfolding countBy
+count-next n m len h = rw (lt-leb _ _ h)
+
+count-some : (n m len : ℕ) → 0 < countBy n m len
+unfolding countBy
+count-some zero m len = omega arith
+count-some (suc n) m len = either (λ c. 0 < c) (leb len m) (omega arith) (omega arith)
+
+-- a count that stops above `k`: it is all of them, or both are above `k`
+abbrev pub Bounded : ℕ → ℕ → ℕ → Type 0
+Bounded k counted all = (counted ≤ k → counted ≡ all) × (k < counted → k < all)
+
+bounded-by : (k n m len : ℕ) → 0 < m → len ≤ n → Bounded k (countBy k m len) (countBy n m len)
+bounded-by k zero m len p f =
+    let l : len ≤ m = omega arith in
+    rw (count-last k m len l, count-last zero m len l) (λ h. refl, λ h. h)
+bounded-by zero (suc n) m len p f = (λ h. absurd (omega (arith, count-none m len, h)), λ h. count-some (suc n) m len)
+bounded-by (suc k) (suc n) m len p f = go (leb len m) refl (λ l. bounded-by k n m (len - m) p (omega (arith, l)))
   where
-    go : (t : Bool) → leb len m ≡ t → (m < len → countBy n m (len - m) ≡ (len - m - 1) / m + 1)
-        → cond t 1 (suc (countBy n m (len - m))) ≡ (len - 1) / m + 1
+    go : (t : Bool) → leb len m ≡ t → (m < len → Bounded k (countBy k m (len - m)) (countBy n m (len - m)))
+        → Bounded (suc k) (countBy (suc k) m len) (countBy (suc n) m len)
     go true e i =
         let l = leb-true len m e in
-        let z : (len - 1) / m ≡ 0 = div-eq-of-lt (omega arith) in
-        rw z
+        rw (count-last (suc k) m len l, count-last (suc n) m len l) (λ h. refl, λ h. h)
     go false e i =
         let l = leb-false len m e in
-        let d = less-div m (len - 1) p (omega arith) in
-        let a : len - 1 - m ≡ len - m - 1 = omega arith in
-        let b : (len - 1 - m) / m ≡ (len - m - 1) / m = ap (λ (x : ℕ). x / m) a in
-        omega (arith, i l)
+        let b = i l in
+        rw (count-next k m len l, count-next n m len l)
+        (λ h. ap suc (b .0 (omega (arith, h))), λ h. omega (arith, b .1 (omega (arith, h))))
 
-pub count-div : (m len : ℕ) → 0 < m → 0 < len → countOf m len ≡ (len - 1) / m + 1
+pub count-bounded : (k m len : ℕ) → 0 < m → Bounded k (countBy k m len) (countOf m len)
 unfolding countOf
-count-div m len p q = div-by len m len p q (omega arith)
-
-one-by : (n m len : ℕ) → len ≤ m → countBy n m len ≡ 1
-unfolding countBy
-one-by zero m len h = refl
-one-by (suc n) m len h = rw (le-leb _ _ h)
-
-pub count-one : (m len : ℕ) → len ≤ m → countOf m len ≡ 1
-unfolding countOf
-count-one m len h = one-by len m len h
+count-bounded k m len p = bounded-by k len m len p (omega arith)
 
 -- they cover the unit
+covers-by : (n m len : ℕ) → 0 < m → len ≤ n → len ≤ m * countBy n m len
+covers-by zero m len p f = omega arith
+covers-by (suc n) m len p f = go (leb len m) refl (λ l. covers-by n m (len - m) p (omega (arith, l)))
+  where
+    go : (t : Bool) → leb len m ≡ t → (m < len → len - m ≤ m * countBy n m (len - m)) → len ≤ m * countBy (suc n) m len
+    go true e i = let l = leb-true len m e in rw (count-last (suc n) m len l, mul-one) l
+    go false e i = let l = leb-false len m e in rw (count-next n m len l, mul-suc) (omega (arith, i l))
+
 pub covers : (m len : ℕ) → 0 < m → len ≤ m * countOf m len
-covers m zero p = omega arith
-covers m (suc len) p =
-    let e : suc len - 1 ≡ len = omega arith in
-    rw (count-div m (suc len) p (omega arith), e) (lt-mul-div-succ len p)
+unfolding countOf
+covers m len p = covers-by len m len p (omega arith)
 
 -- each begins in the unit
 begins-by : (n m len i : ℕ) → i < countBy n m len → i * m ≤ len

@@ -8,7 +8,7 @@ use Rattle.wire.specs.Memory.{pasted}
 use Rattle.mmtp.specs.declared.unit.Fields.{Fields}
 use Rattle.reassembly.specs.declared.unit.Unit.{Unit}
 use Rattle.packer.specs.declared.pack.Packed.the-variants.{Written, Refused}
-use Rattle.packer.specs.Pieces.{piecesBy, pieces, indicatorAt, counterAt, withPsn, pieceAt}
+use Rattle.packer.specs.Pieces.{piecesBy, pieces, countBy, maxPieces, indicatorAt, counterAt, withPsn, pieceAt}
 use Rattle.packer.specs.Packet.{outerHead, payloadType, mmtpHead, indicatorBits, fragmentBits, mpuHead}
 use Rattle.packer.specs.Packet.{signallingHead, payloadHead, timedFields, fieldsWritten, dataUnit, mmtpOf, packetOf}
 use Rattle.packer.specs.Packer.{packetAt, packetsFrom, packets, joined, run, refusalOf, packed, packOf}
@@ -81,6 +81,10 @@ Examples =
     × (packets message 5 0 1 (1 ∷ 2 ∷ 3 ∷ []) ≡ piece 0x50 7 0x40 2 1 ∷ piece 0x51 8 0x80 1 2 ∷ piece 0x52 9 0xC0 0 3 ∷ [])
     -- "the rest if not empty"
     × (pieces 2 (1 ∷ 2 ∷ 3 ∷ 4 ∷ []) ≡ (1 ∷ 2 ∷ []) ∷ (3 ∷ 4 ∷ []) ∷ [])
+    -- what is counted stops at 257: an empty unit, 2 pieces of 2 bytes, a byte more, 256 and 257 pieces, many more, pieces of no byte
+    × (countBy maxPieces 2 0 ≡ 1) × (countBy maxPieces 2 4 ≡ 2) × (countBy maxPieces 2 5 ≡ 3)
+    × (countBy maxPieces 1400 358400 ≡ 256) × (countBy maxPieces 1400 358401 ≡ 257)
+    × (countBy maxPieces 1 1000000000 ≡ 257) × (countBy maxPieces 0 1 ≡ 257)
     -- kinds 0 and 1
     × (run (unit 0 6) 5 9 4 (7 ∷ []) ≡ head 24 0x59 (psn-6 (mpu 7 0x00 0 (7 ∷ []))))
     × (run (unit 1 6) 5 9 4 (7 ∷ []) ≡ head 24 0x59 (psn-6 (mpu 7 0x10 0 (7 ∷ []))))
@@ -88,8 +92,8 @@ Examples =
 pub examples : Examples
 unfolding bytesOf pasted piecesBy pieces indicatorAt counterAt withPsn pieceAt outerHead payloadType mmtpHead indicatorBits
     fragmentBits mpuHead signallingHead payloadHead timedFields fieldsWritten dataUnit mmtpOf packetOf packetAt packetsFrom
-    packets joined run refusalOf packed packOf
-examples = (refl, refl, refl, refl, refl, refl, refl)
+    packets joined run refusalOf packed packOf countBy
+examples = (refl, refl, refl, refl, refl, refl, refl, refl, refl, refl, refl, refl, refl, refl)
 
 -- a refused call, and the output as it was
 abbrev Refuses : ℕ → Unit → ℕ → ℕ → List ℕ → List ℕ → Type 0

@@ -2,7 +2,7 @@
 ghost use mathlib.Core.Path.{_≡_};
 ghost use Prim.Native.Nat.{_+_, _≤_, _<_};
 ghost use lib.ListN.{length, take, drop};
-ghost use Rattle.packer.specs.Pieces.{countOf, maxPieces, indicatorAt, counterAt, pieceAt};
+ghost use Rattle.packer.specs.Pieces.{countBy, maxPieces, indicatorAt, counterAt, pieceAt};
 use mmtp::header::Psn;
 use mmtp::payload::Indicator;
 use reassembly::join::Piece;
@@ -11,15 +11,18 @@ use reassembly::unit::Unit;
 // The most pieces of a unit.
 pub const MAX_PIECES: usize = 256;
 
-// How many pieces of at most `m` bytes a unit of `len` bytes has.
+// How many pieces of at most `m` bytes a unit of `len` bytes has: they are taken away one by one, without a division. The count stops
+// as soon as it is above the most pieces of a unit, so a longer unit costs no more.
 pub fn count(len: usize, m: usize) -> usize
-    requires { ⌜ 0 < m ⌝ }
-    ensures { λ r. ⌜ r ≡ countOf m len ⌝ }
+    ensures { λ r. ⌜ r ≡ countBy maxPieces m len ⌝ }
 {
-    if len <= m {
-        return 1;
+    let mut left = len;
+    let mut n = 1;
+    while n <= MAX_PIECES && m < left {
+        left -= m;
+        n += 1;
     }
-    (len - 1) / m + 1
+    n
 }
 
 // At most `m` bytes from `from`.

@@ -141,6 +141,47 @@ fn units_that_are_taken() {
     }
 }
 
+/// A unit of these bytes in pieces of `m`, with room for all of them.
+fn of_bytes(rng: &mut Prng, m: usize, bytes: &[u8]) -> Call {
+    let unit = unit(rng);
+    let room = written(unit.kind, bytes.len(), m);
+    Call {
+        unit,
+        cid: 5,
+        sn: rng.byte(),
+        m,
+        bytes: bytes.to_vec(),
+        output: vec![0xEE; room],
+    }
+}
+
+/// Each count of pieces up to 257, the last piece whole, one byte short of it and one byte alone.
+#[test]
+fn every_count_of_pieces() {
+    let mut rng = Prng::new(3);
+    for m in [1, 2, 7, 188, MAX_PIECE] {
+        let bytes = rng.bytes(257 * m + 1);
+        for pieces in 1..=257 {
+            for len in [m * pieces - 1, m * pieces, m * pieces + 1] {
+                let refusal = if len > 256 * m { 72 } else { 0 };
+                assert_eq!(compare(&of_bytes(&mut rng, m, &bytes[..len])), refusal);
+            }
+        }
+    }
+}
+
+/// The count stops above 256 pieces, so these are refused at once.
+#[test]
+fn units_of_very_many_pieces() {
+    let bytes = vec![7; 1 << 26];
+    let mut rng = Prng::new(4);
+    for m in [1, 2, 1_399, MAX_PIECE] {
+        let mut call = of_bytes(&mut rng, m, &[]);
+        call.bytes.clone_from(&bytes);
+        assert_eq!(compare(&call), 72);
+    }
+}
+
 #[test]
 fn refused_units() {
     let mut seen = [0; 256];

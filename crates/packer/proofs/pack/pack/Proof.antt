@@ -1,8 +1,10 @@
 -- Why pack meets its contract: each return is one case of the definition.
-use Prim.Native.Nat.{_*_, _<_, _≤_}
-use mathlib.Core.Path.{sym}
+use Prim.Native.Nat.{ℕ, _*_, _<_, _≤_}
+use mathlib.Core.Path.{_≡_, sym}
 use lib.ListN.{length}
 use native.Mathlib.Omega.{arith}
+use Rattle.packer.specs.Pieces.{countOf, maxPieces}
+use Rattle.packer.proofs.Pieces.{Bounded, count-bounded}
 use Rattle.packer.proofs.Refusals.{small, size-zero, size-large, kind-large, too-many, output-short, cid-large, accepted}
 use borrow.Author.Needs.{needs}
 use Rattle.packer.proofs.pack.pack.Statement.{statement}
@@ -22,12 +24,26 @@ returns-3 c =
 count-requires : tie.Need-count-requires
 count-requires c κs = search needs
 
+-- the unit's own count of pieces
+abbrev all : tie.Else3 → ℕ
+all d = let a = d .before .before .before .before .before .args in countOf (a .m) (length (a .bytes .now))
+
+-- what was counted is all of them, or both are too many
+counts : (c : tie.After-count) → Bounded maxPieces (c .count .result) (all (c .before))
+counts c =
+    let d = c .before in
+    let a = d .before .before .before .before .before .args in
+    rw (c .count .ensures)
+    (count-bounded maxPieces (a .m) (length (a .bytes .now)) (omega (arith, d .before .before .if1 .left)))
+
 returns-4 : tie.Need-returns-4
 returns-4 c =
-    let e = c .before .count .ensures in
-    let h = rw e at (c .if4 .taken) in
+    let h = counts (c .before) .1 (c .if4 .taken) in
     let d = c .before .before in
     sym (too-many _ _ _ _ _ _ (d .before .before .if1 .left) (d .before .if2 .left) (d .if3 .left) h)
+
+counted : (c : tie.Else4) → c .before .count .result ≡ all (c .before .before)
+counted c = counts (c .before) .0 (c .if4 .left)
 
 head-bytes-requires : tie.Need-head-bytes-requires
 head-bytes-requires c κs = search needs
@@ -41,7 +57,7 @@ few c =
     let d = q .before in
     let a = d .before .before .before .before .before .args in
     let p : 0 < a .m = omega (arith, d .before .before .if1 .left) in
-    let e = q .count .ensures in
+    let e = counted (c .before) in
     let h = rw e at (c .before .if4 .left) in
     rw e (small (a .m) (length (a .bytes .now)) (c .head-bytes .result) p (d .before .if2 .left) h (c .head-bytes .ensures .1))
 
@@ -56,7 +72,7 @@ returns-5 c =
     let k = c .before in
     let q = k .before .before in
     let d = q .before in
-    let e = q .count .ensures in
+    let e = counted (k .before) in
     let n = rw e at (k .before .if4 .left) in
     let h = rw (e, k .head-bytes .ensures .0) at (c .if5 .taken) in
     sym (output-short _ _ _ _ _ _ (d .before .before .if1 .left) (d .before .if2 .left) (d .if3 .left) n h)
@@ -67,7 +83,7 @@ returns-6 c =
     let k = g .before in
     let q = k .before .before in
     let d = q .before in
-    let e = q .count .ensures in
+    let e = counted (k .before) in
     let n = rw e at (k .before .if4 .left) in
     let l = rw (e, k .head-bytes .ensures .0) at (g .if5 .left) in
     sym (cid-large _ _ _ _ _ _ (d .before .before .if1 .left) (d .before .if2 .left) (d .if3 .left) n l (c .if6 .taken))
@@ -79,7 +95,7 @@ write-run-requires c κs =
     let k = g .before in
     let q = k .before .before in
     let d = q .before in
-    let e = q .count .ensures in
+    let e = counted (k .before) in
     record {
       positive = omega (arith, d .before .before .if1 .left);
       small = d .before .if2 .left;
@@ -101,7 +117,7 @@ returns-7 c =
     let k = g .before in
     let q = k .before .before in
     let d = q .before in
-    let e = q .count .ensures in
+    let e = counted (k .before) in
     let o = k .head-bytes .ensures .0 in
     let n = rw e at (k .before .if4 .left) in
     let l = rw (e, o) at (g .if5 .left) in
