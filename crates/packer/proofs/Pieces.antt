@@ -28,10 +28,10 @@ pub count-pieces : (m : ℕ) (s : List ℕ) → length (pieces m s) ≡ countOf 
 unfolding pieces countOf
 count-pieces m s = count-by (length s) m s
 
--- where the count ends, and how it goes on
-pub count-none : (m len : ℕ) → countBy 0 m len ≡ 1
+-- where the count stops, where it ends, and how it goes on
+pub count-stop : (m len : ℕ) → countBy 0 m len ≡ 1
 unfolding countBy
-count-none m len = refl
+count-stop m len = refl
 
 pub count-last : (n m len : ℕ) → len ≤ m → countBy n m len ≡ 1
 unfolding countBy
@@ -51,18 +51,17 @@ count-some (suc n) m len = either (λ c. 0 < c) (leb len m) (omega arith) (omega
 abbrev pub Bounded : ℕ → ℕ → ℕ → Type 0
 Bounded k counted all = (counted ≤ k → counted ≡ all) × (k < counted → k < all)
 
+bounded-last : (k n m len : ℕ) → len ≤ m → Bounded k (countBy k m len) (countBy n m len)
+bounded-last k n m len l = rw (count-last k m len l, count-last n m len l) (λ h. refl, λ h. h)
+
 bounded-by : (k n m len : ℕ) → 0 < m → len ≤ n → Bounded k (countBy k m len) (countBy n m len)
-bounded-by k zero m len p f =
-    let l : len ≤ m = omega arith in
-    rw (count-last k m len l, count-last zero m len l) (λ h. refl, λ h. h)
-bounded-by zero (suc n) m len p f = (λ h. absurd (omega (arith, count-none m len, h)), λ h. count-some (suc n) m len)
+bounded-by k zero m len p f = bounded-last k zero m len (omega arith)
+bounded-by zero (suc n) m len p f = (λ h. absurd (omega (arith, count-stop m len, h)), λ h. count-some (suc n) m len)
 bounded-by (suc k) (suc n) m len p f = go (leb len m) refl (λ l. bounded-by k n m (len - m) p (omega (arith, l)))
   where
     go : (t : Bool) → leb len m ≡ t → (m < len → Bounded k (countBy k m (len - m)) (countBy n m (len - m)))
         → Bounded (suc k) (countBy (suc k) m len) (countBy (suc n) m len)
-    go true e i =
-        let l = leb-true len m e in
-        rw (count-last (suc k) m len l, count-last (suc n) m len l) (λ h. refl, λ h. h)
+    go true e i = bounded-last (suc k) (suc n) m len (leb-true len m e)
     go false e i =
         let l = leb-false len m e in
         let b = i l in
@@ -157,18 +156,9 @@ unfolding pieces
 pieces-most m s o = most-by (length s) m s o (omega arith)
 
 -- an empty unit is one piece too
-some-by : (n m : ℕ) (s : List ℕ) → 0 < length (piecesBy n m s)
-unfolding piecesBy
-some-by zero m s = omega arith
-some-by (suc n) m s = go (leb (length s) m)
-  where
-    go : (t : Bool) → 0 < length (cond t (s ∷ []) (take m s ∷ piecesBy n m (drop m s)))
-    go true = omega arith
-    go false = omega arith
-
 pub pieces-some : (m : ℕ) (s : List ℕ) → 0 < length (pieces m s)
 unfolding pieces
-pieces-some m s = some-by (length s) m s
+pieces-some m s = rw (count-by (length s) m s) (count-some (length s) m (length s))
 
 -- together they are the unit
 joined-by : (n m : ℕ) (s : List ℕ) → joined (piecesBy n m s) ≡ s

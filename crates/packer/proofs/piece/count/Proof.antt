@@ -5,12 +5,12 @@ use native.Mathlib.Nat.{add-comm}
 use native.Mathlib.Omega.{arith}
 use borrow.Author.Tests.{ltb-true, ltb-false}
 use Rattle.packer.specs.Pieces.{countBy, maxPieces}
-use Rattle.packer.proofs.Pieces.{count-none, count-last, count-next}
+use Rattle.packer.proofs.Pieces.{count-stop, count-last, count-next}
 use borrow.Author.Needs.{needs}
 use Rattle.packer.proofs.piece.count.Statement.{statement}
 use Rattle.packer.proofs.piece.count.Tie as tie
 
--- from the most pieces of a unit, and one
+-- where the count stops: one more than the most pieces of a unit
 abbrev stop : ℕ
 stop = maxPieces + 1
 
@@ -53,7 +53,7 @@ returns-2 : tie.Need-returns-2 Inv-loop μ-loop
 returns-2 c =
     let l = c .before .loop in
     let e : stop - l .n ≡ 0 = omega (arith, c .loop-test .left) in
-    let i = rw (e, count-none (c .before .before .args .m) (l .left)) at (l .inv .1) in
+    let i = rw (e, count-stop (c .before .before .args .m) (l .left)) at (l .inv .1) in
     omega (arith, i)
 
 pub count-spec : {M : Type 1} → statement M
