@@ -14,7 +14,7 @@ use crate::session::Progress;
 use crate::session::Session;
 
 // The longest command: S, its length, and 65,535 bytes.
-pub const LONGEST_COMMAND: usize = 65538;
+const LONGEST_COMMAND: usize = 65538;
 
 // What a block leaves.
 pub struct Fed {

@@ -56,7 +56,7 @@ fn put_event(out: &mut [u8], at: usize, tally: Tally, event: Event) -> usize
 }
 
 // One more unit.
-pub fn count_unit(tally: Tally, len: usize) -> Tally
+fn count_unit(tally: Tally, len: usize) -> Tally
     ensures { λ r. ⌜ r ≡ withUnit tally len ⌝ }
 {
     Tally {

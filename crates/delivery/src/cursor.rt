@@ -36,7 +36,7 @@ pub struct Turn {
 }
 
 // Whether the total of the packet at `at` is known and above what is kept.
-pub fn is_too_long(s: &[u8], at: usize) -> bool
+fn is_too_long(s: &[u8], at: usize) -> bool
     ensures { λ r. ⌜ r ≡ tooLong (drop at (now (s .entry))) ⌝ }
 {
     if s.len() < at {
@@ -115,7 +115,7 @@ fn advance(c: Cursor, memory: &[u8]) -> Advanced
     }
 }
 
-pub fn is_event(event: Event) -> bool
+fn is_event(event: Event) -> bool
     ensures { λ r. ⌜ r ≡ isEvent event ⌝ }
 {
     match event {

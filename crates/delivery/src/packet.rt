@@ -131,7 +131,7 @@ fn store(collecting: &mut [u8], at: usize, m: &[u8], u: DataUnit)
 }
 
 // The piece's bytes go to collecting memory, where the action says so.
-pub fn collect(action: Action, collecting: &mut [u8], base: usize, m: &[u8], u: DataUnit)
+fn collect(action: Action, collecting: &mut [u8], base: usize, m: &[u8], u: DataUnit)
     requires { ⌜ Room action (length (now collecting)) base (length (now m)) u ⌝ }
     ensures { λ _. ⌜ now (collecting .exit) ≡ collected action (now (collecting .entry)) base (now (m .entry)) u ⌝ }
 {

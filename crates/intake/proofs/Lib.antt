@@ -1,3 +1,2 @@
 -- What is proved of slots beside the code.
 pub mod SlotLaws
-pub mod AsideLaws

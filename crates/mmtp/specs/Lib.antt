@@ -4,11 +4,9 @@ pub mod Notes
 pub mod Flow
 pub mod Header
 pub mod Watch
-pub mod Table
 pub mod Take
 pub mod Unit
 pub mod Payload
 pub mod PayloadSpecimens
 pub mod Packet
-pub mod Plain
 pub mod Specimens

@@ -4,8 +4,6 @@ pub mod header;
 pub mod note;
 pub mod packet;
 pub mod payload;
-pub mod plain;
 pub mod reader;
-pub mod table;
 pub mod unit;
 pub mod watch;

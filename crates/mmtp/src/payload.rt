@@ -37,7 +37,7 @@ pub enum PayloadRead {
     Good(Payload),
 }
 
-pub fn indicator_of(bits: u8) -> Indicator
+fn indicator_of(bits: u8) -> Indicator
     ensures { λ r. ⌜ r ≡ indicatorOf bits ⌝ }
 {
     match bits {

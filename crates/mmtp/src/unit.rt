@@ -45,7 +45,7 @@ pub fn field_bytes(kind: u8) -> usize
     }
 }
 
-pub fn fields_at(m: &[u8], at: usize, kind: u8) -> Fields
+fn fields_at(m: &[u8], at: usize, kind: u8) -> Fields
     requires { ⌜ at + fieldBytes kind ≤ length (now m) ⌝ }
     ensures { λ r. ⌜ r ≡ fieldsOf kind (drop at (now (m .entry))) ⌝ }
 {

@@ -5,13 +5,12 @@ use mathlib.Core.Bool.{Bool, true, false, cond}
 use mathlib.Core.List.{List}
 use native.Mathlib.Nat.{mul-le-mul}
 use native.Mathlib.Omega.{arith}
-use borrow.Author.Tests.{eq-eqb, ne-eqb, lt-ltb, le-ltb, eqb-true, eqb-false, ltb-false}
+use borrow.Author.Tests.{eq-eqb, ne-eqb, lt-ltb, le-ltb, eqb-false}
 use lib.ListN.{length, take}
 use lib.Dec.{eqb, ltb}
 use lib.Seq.{take-length, take-append-seam}
 use Rattle.wire.specs.Choice.{either}
 use Rattle.wire.specs.Memory.{pasted}
-use Rattle.mmtp.specs.Cases.{chose-not}
 use Rattle.reassembly.specs.declared.unit.Unit.{Unit}
 use Rattle.packer.specs.declared.pack.Packed.{Packed}
 use Rattle.packer.specs.declared.pack.Packed.the-variants.{Written, Refused}
@@ -92,33 +91,6 @@ module _ (u : Unit) (cid sn m : ℕ) (s out : List ℕ) where
                   le-ltb _ _ h,
                 )
 
--- what a call that is not refused tells
-pub record Accepted (m kind n len room cid : ℕ) : Type 0 where
-  pub positive : 0 < m
-  pub short : m ≤ 1400
-  pub kinds : kind ≤ 4
-  pub few : n ≤ maxPieces
-  pub fits : len ≤ room
-  pub cids : cid ≤ 4095
-
-pub not-refused : (m kind n len room cid : ℕ) → refusalOf m kind n len room cid ≡ 0 → Accepted m kind n len room cid
-unfolding refusalOf
-not-refused m kind n len room cid e =
-    let a = chose-not (eqb m 0) _ _ 0 e (λ q. omega arith) in
-    let b = chose-not (ltb 1400 m) _ _ 0 (a .1) (λ q. omega arith) in
-    let c = chose-not (ltb 4 kind) _ _ 0 (b .1) (λ q. omega arith) in
-    let d = chose-not (ltb maxPieces n) _ _ 0 (c .1) (λ q. omega arith) in
-    let f = chose-not (ltb room len) _ _ 0 (d .1) (λ q. omega arith) in
-    let g = chose-not (ltb 4095 cid) _ _ 0 (f .1) (λ q. omega arith) in
-    record {
-      positive = omega (arith, eqb-false m 0 (a .0));
-      short = ltb-false _ _ (b .0);
-      kinds = ltb-false _ _ (c .0);
-      few = ltb-false _ _ (d .0);
-      fits = ltb-false _ _ (f .0);
-      cids = ltb-false _ _ (g .0);
-    }
-
 -- a refusal is 70 to 74
 refusal-bounds : (m kind n len room cid : ℕ) → let r = refusalOf m kind n len room cid in (r ≡ 0 → ⊥) → (70 ≤ r) × (r ≤ 74)
 unfolding refusalOf
@@ -138,17 +110,6 @@ module _ (u : Unit) (cid sn m : ℕ) (s out : List ℕ) where
   -- by the test for a refusal
   abbrev answer : Bool → Packed × List ℕ
   answer t = cond t (Written (length (run u cid sn m s)), packed (run u cid sn m s) out) (Refused refusal, out)
-
-  -- a unit that was packed fits the output
-  pub pack-fits : (len : ℕ) (after : List ℕ) → packOf u cid sn m s out ≡ (Written len, after) → len ≤ length out
-  unfolding packOf
-  pack-fits len after e = go (eqb refusal 0) refl e
-    where
-      go : (t : Bool) → eqb refusal 0 ≡ t → answer t ≡ (Written len, after) → len ≤ length out
-      go true t e =
-          let q : length (run u cid sn m s) ≡ len = cc (ap (λ x. x .0) e) in
-          rw (← q) (not-refused m (u .kind) _ _ _ cid (eqb-true _ _ t) .fits)
-      go false t e = let z : _≡_ {A = ℕ} 0 1 = cc (ap (λ x. x .0) e) in omega arith
 
   refused-with : (n : ℕ) (after : List ℕ) → packOf u cid sn m s out ≡ (Refused n, after)
       → (70 ≤ n) × (n ≤ 74) × (after ≡ out)

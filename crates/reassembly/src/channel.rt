@@ -58,7 +58,7 @@ pub fn fresh() -> Channel
 }
 
 // The psn that follows.
-pub fn next_psn(p: Psn) -> Psn
+fn next_psn(p: Psn) -> Psn
     ensures { λ r. ⌜ r ≡ nextPsn p ⌝ }
 {
     Psn(std::num::wrapping_add_u32(p.0, 1))

@@ -2,7 +2,7 @@
 ghost use mathlib.Core.Path.{_≡_};
 ghost use Prim.Native.Nat.{_+_, _<_};
 ghost use Rattle.reassembly.specs.Join.{interrupted, kept, given, begun, counterFollows, grown, extended, followed};
-ghost use Rattle.reassembly.specs.Join.{acted, heardAt, joinOf, heardWhole};
+ghost use Rattle.reassembly.specs.Join.{acted, heardAt, joinOf};
 use crate::channel::Channel;
 use crate::channel::OpenUnit;
 use crate::channel::Phase;
@@ -39,12 +39,6 @@ pub struct Joined {
     // The bytes are above R: this note comes after the other.
     pub over: bool,
     pub action: Action,
-}
-
-// A packet FI 00 is heard: the channel after it, and its note.
-pub struct HeardWhole {
-    pub channel: Channel,
-    pub note: u8,
 }
 
 // The note where an open unit is dropped; 0 for none.
@@ -116,7 +110,7 @@ fn begin(ch: Channel, p: Piece, limit: usize, note: u8) -> Joined
 }
 
 // Whether a piece's counter is one lower than the one before.
-pub fn counter_follows(before: u8, counter: u8) -> bool
+fn counter_follows(before: u8, counter: u8) -> bool
     ensures { λ r. ⌜ r ≡ counterFollows before counter ⌝ }
 {
     if before == 0 {
@@ -244,22 +238,4 @@ pub fn join(ch: Channel, p: Piece, limit: usize) -> Joined
         };
     }
     j
-}
-
-// `join` of a packet FI 00, whose action is Whole.
-pub fn hear_whole(ch: Channel, psn: Psn) -> HeardWhole
-    ensures { λ r. ⌜ r ≡ heardWhole ch psn ⌝ }
-{
-    let phase = ch.phase;
-    let channel = Channel {
-        phase: Phase::Idle,
-        last: psn,
-        ..ch
-    };
-    if is_gap(ch, psn) {
-        let note = number(JoinNote::Gap);
-        return HeardWhole { channel, note };
-    }
-    let note = interruption(phase);
-    HeardWhole { channel, note }
 }

@@ -9,7 +9,7 @@ use wire::field;
 pub const MAX_PACKET: usize = 16384;
 
 // Whether a byte begins a good TLV header: 0x7F, that is 01 and six reserved bits, all 1.
-pub fn good_first(b: u8) -> bool
+fn good_first(b: u8) -> bool
     ensures { λ r. ⌜ r ≡ goodFirst b ⌝ }
 {
     b == 0x7f

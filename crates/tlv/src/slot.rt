@@ -7,7 +7,7 @@ use crate::packet::Walked;
 pub const NONE: u16 = 0xffff;
 
 // The last pointer of a slot whose packets from the top pointer end at `end`; `end` is the top pointer if none is complete.
-pub fn last_pointer(end: usize) -> usize
+fn last_pointer(end: usize) -> usize
     ensures { λ r. ⌜ r ≡ lastPointer end ⌝ }
 {
     if end == 0 { 0xffff } else { end }

@@ -1,3 +1,0 @@
--- What is proved of the worked example beside its code.
-pub mod Quiet
-pub mod Outcome
