@@ -5,3 +5,4 @@ pub mod Texts
 pub mod Feeds
 pub mod Playing
 pub mod Progress
+pub mod Whole

@@ -33,10 +33,10 @@ pub record Good (x : Player) : Type 0 where
   pub long : 65538 ≤ length (x .command)
 
 -- the lines to come
-abbrev toCome : Player → List ℕ → List ℕ
+abbrev pub toCome : Player → List ℕ → List ℕ
 toCome x b = textOf (x .session) (x .packet) (x .collecting) (heldOf (x .command) (x .held) ++ b)
 
-good-kept : (x : Player) → Good x → x .held ≡ keptOf (x .command) (x .held)
+pub good-kept : (x : Player) → Good x → x .held ≡ keptOf (x .command) (x .held)
 good-kept x g = go (eqb (x .held) 0) refl
   where
     go : (t : Bool) → eqb (x .held) 0 ≡ t → x .held ≡ keptOf (x .command) (x .held)
@@ -48,17 +48,17 @@ good-kept x g = go (eqb (x .held) 0) refl
     go false e = sym (kept-all (x .command) (x .held) (g .held) (g .part (eqb-false (x .held) 0 e)))
 
 module _ (x : Player) (g : Good x) (block later out : List ℕ) where
-  abbrev w : World
+  abbrev pub w : World
   w = entered (x .session) (x .held) (x .command) (x .packet) (x .collecting) out
 
-  right : Right block w
+  pub right : Right block w
   right = record { part = g .part; held = g .held; long = g .long; read = omega arith; written = omega arith }
 
   fed-world : fed x block out ≡ leftBy (fedFrom block w)
   fed-world =
       fed-long (x .session) (x .held) (x .command) block (x .packet) (x .collecting) out (g .long) (x .held) (good-kept x g) refl
 
-  feed-good : Good (afterFeed (fed x block out))
+  pub feed-good : Good (afterFeed (fed x block out))
   feed-good = let r = feed-claim block w right .0 in rw fed-world (record { part = r .part; held = r .held; long = r .long })
 
   feed-text : toCome x (block ++ later)
@@ -111,13 +111,13 @@ part-read y g = go (whole (heldOf (y .command) (y .held))) refl
     go false e = refl
 
 -- nothing is to come any more but the last line
-idle-text : (y : Player) → Good y → busy (y .session) ≡ false → toCome y [] ≡ lastLine (y .session .tally)
+pub idle-text : (y : Player) → Good y → busy (y .session) ≡ false → toCome y [] ≡ lastLine (y .session .tally)
 idle-text y g i =
     ap (textOf (y .session) (y .packet) (y .collecting)) (append-nil (heldOf (y .command) (y .held)))
     ∙ text-step (y .session) (y .packet) (y .collecting) (heldOf (y .command) (y .held))
     ∙ rw (drain-idle (y .session) (y .packet) (y .collecting) i, part-read y g)
 
-first-good : (command p c : List ℕ) → 65538 ≤ length command → Good (first command p c)
+pub first-good : (command p c : List ℕ) → 65538 ≤ length command → Good (first command p c)
 first-good command p c h = record { part = λ z. absurd (z refl); held = omega arith; long = h }
 
 pub play-claim : PlayClaim

@@ -5,10 +5,11 @@ use mathlib.Core.Path.{_≡_}
 use mathlib.Core.Bool.{true, false}
 use mathlib.Core.List.{List, [], _++_}
 use lib.ListN.{length, take, drop}
+use Rattle.lines.specs.Text.{wrote}
 use Rattle.capture.specs.declared.session.Session.{Session}
 use Rattle.capture.specs.Session.{busy, isEnded, freshSession}
 use Rattle.capture.specs.Capture.{lastLine, captureOf}
-use Rattle.capture.specs.Steps.{Poured, pouredOf}
+use Rattle.capture.specs.Steps.{Poured, roomy, pouredOf}
 use Rattle.capture.specs.Feed.{Left, fedOf}
 
 -- what the calls hand on
@@ -51,3 +52,17 @@ PlayClaim =
     (command p c b t : List ℕ) (y : Player) (l : List ℕ) → 65538 ≤ length command → Plays (first command p c) b t y l
     → (busy (y .session) ≡ false → l ≡ [] → captureOf p c b ≡ t ++ lastLine (y .session .tally))
     × (isEnded (y .session .phase) ≡ true → captureOf p c b ≡ t ++ lastLine (y .session .tally))
+
+-- a capture that is fed at once: the first of its lines were written, and where a longest line has room behind them, the last line
+-- alone is left
+pub record AtOnce (lines out : List ℕ) (f : Left) : Type 0 where
+  pub text : List ℕ
+  pub rest : List ℕ
+  pub whole : lines ≡ text ++ rest
+  pub written : (f .0 .written, f .4) ≡ wrote out 0 text
+  pub within : length text ≤ length out
+  pub last : roomy (length (f .4)) (f .0 .written) ≡ true → rest ≡ lastLine (f .0 .session .tally)
+
+abbrev pub WholeClaim : Type 0
+WholeClaim =
+    (command p c b out : List ℕ) → 65538 ≤ length command → AtOnce (captureOf p c b) out (fed (first command p c) b out)

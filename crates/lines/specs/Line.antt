@@ -118,3 +118,8 @@ note-89 frame slot n id = simp length-append (omega (arith, place-42 frame slot,
 pub refused-29 : (n : ℕ) → length (refusedLine n) ≤ 29
 unfolding refusedLine
 refused-29 n = simp length-append (omega (arith, field-21 n 10))
+
+pub end-67 : (frames units notes : ℕ) → length (endLine frames units notes) ≤ 67
+unfolding endLine
+end-67 frames units notes =
+    simp length-append (omega (arith, field-21 frames 32, field-21 units 32, field-21 notes 10))

@@ -1,15 +1,16 @@
--- What is claimed of the functions of C linkage: a capture's calls, one after the other, write its lines; a refused call of the
--- packer or the cutter leaves all that it was lent.
+-- What is claimed of the functions of C linkage: a capture's calls, one after the other, write its lines, and so does the function
+-- of its text; a refused call, of a capture, the packer or the cutter, leaves all that it was lent.
 use Prim.Native.Nat.{ℕ, _≤_}
 use mathlib.Core.Path.{_≡_}
 use mathlib.Core.Bool.{true, false, cond}
 use mathlib.Core.List.{List, _++_}
 use lib.ListN.{take, drop}
 use Rattle.receiver.specs.Next.{nextOf}
+use Rattle.capture.specs.declared.session.Phase.the-variants.{Reading, Ended}
 use Rattle.capture.specs.declared.session.Session.{Session}
 use Rattle.capture.specs.Command.{sizeOf}
-use Rattle.capture.specs.Session.{busy}
-use Rattle.capture.specs.Capture.{doneOf, eventLine, lastLine, textOf}
+use Rattle.capture.specs.Session.{busy, inPhase}
+use Rattle.capture.specs.Capture.{doneOf, eventLine, lastLine, textOf, captureOf}
 use Rattle.reassembly.specs.declared.unit.Unit.{Unit}
 use Rattle.packer.specs.declared.pack.Packed.the-variants.{Written}
 use Rattle.packer.specs.Packer.{packOf}
@@ -17,6 +18,7 @@ use Rattle.cutter.specs.declared.slot.CutSlot.the-variants.{Cut}
 use Rattle.cutter.specs.Slot.{slotOf}
 use Rattle.linked.specs.Answers.{packCall, cutCall}
 use Rattle.linked.specs.Calls.{callComes, stepOf}
+use Rattle.linked.specs.Text.{textCall, Begins}
 
 -- the line that a call writes, if it writes one
 unfoldable pub lineOf : Session → List ℕ → List ℕ → List ℕ → List ℕ
@@ -32,7 +34,15 @@ CallClaim = (s : Session) (p c b : List ℕ) → callComes s b ≡ true → let 
 abbrev pub EndClaim : Type 0
 EndClaim = (s : Session) (p c b : List ℕ) → callComes s b ≡ false → textOf s p c b ≡ lastLine (s .tally)
 
--- demand 1: a refused call returns a number of document 01's, and each number and byte that it was lent is as it was
+-- demand 1: a call of a capture that is refused ends the reading, and leaves both memories as they were; so it leaves the session
+-- of a receiver that was started, its state among it. (Before C there is no receiver, and a refused start makes none.)
+abbrev pub CallRefused : Type 0
+CallRefused = (s : Session) (p c b : List ℕ) → callComes s b ≡ true → let r = stepOf s p c b in
+    r .0 .session .phase ≡ Ended
+    → (r .1 ≡ p) × (r .2 ≡ c) × (s .phase ≡ Reading → r .0 .session ≡ inPhase s Ended)
+
+-- and so does one of the packer or the cutter: it returns a number of document 01's, and each number and byte that it was lent is
+-- as it was
 abbrev pub PackCallRefused : Type 0
 PackCallRefused = (u : Unit) (cid sn m : ℕ) (s out : List ℕ) (len : ℕ) (n len' : ℕ) (out' : List ℕ)
     → packCall u cid sn m s out len ≡ (n, len', out') → (n ≡ 0 → ⊥)
@@ -52,3 +62,7 @@ abbrev pub CutCallTaken : Type 0
 CutCallTaken = (run : List ℕ) (l s : ℕ) (output : List ℕ) (top last : ℕ) (top' last' : ℕ) (output' : List ℕ)
     → cutCall run l s output top last ≡ (0, top', last', output')
     → slotOf run l s output ≡ (Cut (record { 0 = top'; 1 = last' }), output')
+
+-- the text of a capture in memory: what `tlv_capture` prints, as far as it has room
+abbrev pub TextCallClaim : Type 0
+TextCallClaim = (b p c out : List ℕ) → let r = textCall b p c out in Begins (captureOf p c b) out (r .0) (r .3)

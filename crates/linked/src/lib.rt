@@ -2,3 +2,4 @@
 pub mod calls;
 pub mod cut;
 pub mod pack;
+pub mod text;

@@ -1,0 +1,38 @@
+-- A whole capture in memory: the lines that are written, and both memories.
+use Prim.Native.Nat.{ℕ, _+_, _≤_}
+use mathlib.Core.Path.{_≡_}
+use mathlib.Core.List.{List, [], _++_}
+use lib.ListN.{length, replicate}
+use Rattle.lines.specs.Text.{wrote}
+use Rattle.capture.specs.Session.{freshSession}
+use Rattle.capture.specs.Steps.{finishedOf}
+use Rattle.capture.specs.Feed.{Left, fedOf}
+
+-- how many bytes of text, both memories, and the memory of the text
+abbrev pub Written : Type 0
+Written = ℕ × List ℕ × List ℕ × List ℕ
+
+-- after the capture was fed, the last line
+abbrev pub finishedBy : Left → Written
+finishedBy f = let w = finishedOf (f .0 .session .tally) (f .4) (f .0 .written) in (w .0, f .2, f .3, w .1)
+
+-- the capture b is fed at once, with a command memory that is blank
+unfoldable pub textCall : List ℕ → List ℕ → List ℕ → List ℕ → Written
+textCall b p c out = finishedBy (fedOf freshSession 0 (replicate 65538 0) b p c out)
+
+-- `written` are the first bytes of `text`, from byte 0 of `out` on; `out` is otherwise as it was
+pub record Begins (text out : List ℕ) (r : ℕ) (o : List ℕ) : Type 0 where
+  pub written : List ℕ
+  pub rest : List ℕ
+  pub whole : text ≡ written ++ rest
+  pub put : (r, o) ≡ wrote out 0 written
+  -- nothing is left where a longest line has room behind the text
+  pub all : length text + 152 ≤ length out → rest ≡ []
+
+-- Laws.
+
+pub text-call : (b p c out : List ℕ) (f : Left) → f ≡ fedOf freshSession 0 (replicate 65538 0) b p c out
+    → (n : ℕ) (o : List ℕ) → (n, o) ≡ finishedOf (f .0 .session .tally) (f .4) (f .0 .written)
+    → (n, f .2, f .3, o) ≡ textCall b p c out
+unfolding textCall
+text-call b p c out f e n o w = rw (← e, ← w)
