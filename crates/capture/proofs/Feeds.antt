@@ -1,14 +1,15 @@
 -- Why feeding writes the first of the lines that the bytes ahead come to: a turn gathers bytes, or carries out a whole command.
-use Prim.Native.Nat.{ℕ, zero, suc, _+_, _-_, _<_, _≤_}
+use Prim.Native.Nat.{ℕ, zero, suc, min, _+_, _-_, _<_, _≤_}
 use mathlib.Core.Path.{_≡_, refl, sym, _∙_, ap}
 use mathlib.Core.Bool.{Bool, true, false, cond, _&&_, not, and-eq-true-iff, true≢false}
 use mathlib.Core.List.{List, [], _++_, append-assoc}
+use native.Mathlib.Nat.{add-sub-cancel-left}
 use native.Mathlib.Omega.{arith}
 use borrow.Author.Tests.{leb-true, eqb-true, eqb-false, not-true, ltb-true, ltb-false, eq-eqb}
 use lib.ListN.{length, getD, take, drop, length-append, length-drop, take-append-drop}
 use lib.Seq.{take-paste, take-at, drop-at, drop-drop, length-take-le}
 use lib.Dec.{eqb, ltb}
-use Rattle.wire.specs.Memory.{pasted}
+use Rattle.wire.specs.Memory.{pasted, length-pasted}
 use Rattle.delivery.specs.Choice.{by-test}
 use Rattle.capture.specs.declared.command.Letter.{Letter}
 use Rattle.capture.specs.declared.command.Letter.the-variants.{Start, Frame, LostFrame, Slot, LostSlot, Unknown}
@@ -19,11 +20,13 @@ use Rattle.lines.specs.Line.{refusedLine, field-21}
 use Rattle.lines.specs.Text.{wrote, wrote-none, wrote-end, length-wrote, wrote-append}
 use Rattle.capture.specs.Session.{busy, isReading, isEnded, inPhase, withState}
 use Rattle.capture.specs.Command.{letterOf, sizeOf, whole, size-by, slot-size-within, size-kept, size-grows, size-most}
+use Rattle.capture.specs.Command.{size-none}
 use Rattle.capture.specs.Capture.{Done, fits, callOf, afterCall, settled, doneOf, lastLine, textOf}
 use Rattle.capture.specs.Steps.{roomy, actedOf, pouredOf}
-use Rattle.capture.specs.Feed.{World, heldOf, Keeps, gatheredOf, goesBy, goes, turnOf, fedBy, fedFrom, keeps-all}
-use Rattle.capture.specs.Feed.{keeps-none, gathered-some, wanted-first, wanted-rest, kept-all, kept-none, ran-part}
-use Rattle.capture.specs.Feed.{ran-whole, goes-read}
+use Rattle.capture.specs.Feed.{World, heldOf, wantedOf, keptOf, Keeps, wholeSize, gatheredOf, takenOf, sourceOf, ranOf}
+use Rattle.capture.specs.Feed.{goesBy, goes, turnOf, fedBy, fedFrom, keeps-all, keeps-none, wanted-first, wanted-rest}
+use Rattle.capture.specs.Feed.{kept-all, kept-none, ran-part, ran-whole, goes-read, whole-front, taken-whole, taken-held}
+use Rattle.capture.specs.Feed.{taken-part, source-block, source-gathered, turn-by}
 use Rattle.capture.specs.Claims.{Right, ahead, Feeds, FeedClaim}
 use Rattle.capture.specs.Drains.{drain-idle}
 use Rattle.capture.proofs.Pours.{pour-claim}
@@ -36,13 +39,34 @@ right-keeps block w r = go (eqb (w .held) 0) refl
     go true e = rw (eqb-true (w .held) 0 e) (keeps-none (w .command))
     go false e = keeps-all (w .command) (w .held) (r .held) (r .part (eqb-false _ _ e)) (size-most _)
 
--- what a turn gathers
+-- what a turn takes: `n` bytes of the block, so that the command's first bytes are `b`, `end` of them in the command memory `d`
+pub record Takes (block : List ℕ) (w : World) (n end : ℕ) (d b : List ℕ) : Type 0 where
+  pub first : 1 ≤ length b
+  pub ahead-split : (more : List ℕ) → ahead block w more ≡ b ++ (drop (w .read + n) block ++ more)
+  -- a command that is known is not passed
+  pub within : 1 ≤ sizeOf b → length b ≤ sizeOf b
+  -- it is held where it is not whole, else nothing is
+  pub part : length b < sizeOf b → (take end d ≡ b) × (end ≤ length d)
+  pub none : sizeOf b ≤ length b → keptOf d end ≡ 0
+
+module _ (block : List ℕ) (w : World) where
+  -- bytes ahead of which the first n are read
+  front-split : (n : ℕ) (more : List ℕ)
+      → ahead block w more ≡ (heldOf (w .command) (w .held) ++ take n (drop (w .read) block)) ++ (drop (w .read + n) block ++ more)
+  front-split n more =
+      let new = take n (drop (w .read) block) in
+      ap (λ (x : List ℕ). heldOf (w .command) (w .held) ++ (x ++ more))
+      (sym (take-append-drop n (drop (w .read) block)) ∙ ap (λ (x : List ℕ). new ++ x) (drop-drop n (w .read) block))
+      ∙ ap (λ (x : List ℕ). heldOf (w .command) (w .held) ++ x) (append-assoc new (drop (w .read + n) block) more)
+      ∙ sym (append-assoc (heldOf (w .command) (w .held)) new _)
+
+-- bytes are gathered
 module _ (block : List ℕ) (w : World) (r : Right block w) (l : w .read < length block) where
   abbrev n : ℕ
-  n = gatheredOf (w .command) (w .held) block (w .read) .0
+  n = min (wantedOf (heldOf (w .command) (w .held))) (length block - w .read)
 
   abbrev d : List ℕ
-  d = gatheredOf (w .command) (w .held) block (w .read) .1
+  d = pasted (w .command) (w .held) (drop (w .read) block) n
 
   abbrev b : List ℕ
   b = take (w .held + n) d
@@ -51,10 +75,16 @@ module _ (block : List ℕ) (w : World) (r : Right block w) (l : w .read < lengt
   new = take n (drop (w .read) block)
 
   some : (1 ≤ n) × (w .held + n ≤ 65538) × (w .read + n ≤ length block) × (length d ≡ length (w .command))
-  some = gathered-some (w .command) d (w .held) block (w .read) n refl (right-keeps block w r) l (r .long)
+  some =
+      let k = right-keeps block w r in
+      let some = k .some in
+      let most = k .most in
+      let long = r .long in
+      let q : n ≤ length (drop (w .read) block) = rw (length-drop (w .read) block) (omega arith) in
+      (omega arith, omega arith, omega arith, length-pasted (w .command) (w .held) (drop (w .read) block) n (omega arith) q)
 
   b-split : b ≡ heldOf (w .command) (w .held) ++ new
-  unfolding gatheredOf pasted
+  unfolding pasted
   b-split =
       let s = some in
       take-paste (w .command) (w .held) (drop (w .read) block) n (r .held) (rw (length-drop (w .read) block) (omega arith))
@@ -62,9 +92,7 @@ module _ (block : List ℕ) (w : World) (r : Right block w) (l : w .read < lengt
   b-length : length b ≡ w .held + n
   b-length = let s = some in let h = r .long in length-take-le (w .held + n) d (omega arith)
 
-  -- a command that is known is not passed
   b-within : 1 ≤ sizeOf b → length b ≤ sizeOf b
-  unfolding gatheredOf
   b-within k = go (eqb (w .held) 0) refl
     where
       go : (t : Bool) → eqb (w .held) 0 ≡ t → length b ≤ sizeOf b
@@ -84,14 +112,37 @@ module _ (block : List ℕ) (w : World) (r : Right block w) (l : w .read < lengt
           let f : sizeOf (heldOf (w .command) (w .held)) ≤ sizeOf b = rw b-split g in
           omega arith
 
-  -- the bytes ahead
-  ahead-split : (more : List ℕ) → ahead block w more ≡ b ++ (drop (w .read + n) block ++ more)
-  ahead-split more =
-      rw b-split
-      (ap (λ (x : List ℕ). heldOf (w .command) (w .held) ++ (x ++ more))
-      (sym (take-append-drop n (drop (w .read) block)) ∙ ap (λ (x : List ℕ). new ++ x) (drop-drop n (w .read) block))
-      ∙ ap (λ (x : List ℕ). heldOf (w .command) (w .held) ++ x) (append-assoc new (drop (w .read + n) block) more)
-      ∙ sym (append-assoc (heldOf (w .command) (w .held)) new _))
+  gathers : Takes block w n (w .held + n) d b
+  gathers =
+      let s = some in
+      let m = b-length in
+      let long = r .long in
+      record {
+        first = omega arith;
+        ahead-split = λ more. rw b-split (front-split block w n more);
+        within = b-within;
+        part = λ h. (refl, omega arith);
+        none = λ h. kept-none d (w .held + n) (omega arith) (omega arith);
+      }
+
+-- a command is taken from the block, where it stands whole
+module _ (block : List ℕ) (w : World) (h : w .held ≡ 0) (z : wholeSize (drop (w .read) block) ≡ 0 → ⊥) where
+  abbrev size : ℕ
+  size = wholeSize (drop (w .read) block)
+
+  from-block : Takes block w size 0 (w .command) (take size (drop (w .read) block))
+  from-block =
+      let f = whole-front (drop (w .read) block) z in
+      let within = f .within in
+      let whole = f .whole in
+      let l = length-take-le size (drop (w .read) block) within in
+      record {
+        first = omega arith;
+        ahead-split = λ more. front-split block w size more ∙ rw h;
+        within = λ k. omega (arith, f .exact k);
+        part = λ k. absurd (omega arith);
+        none = λ k. kept-none (w .command) 0 (omega arith) (omega (arith, size-none (heldOf (w .command) 0) refl));
+      }
 
 refused-152 : (n : ℕ) → length (refusedLine n) ≤ 152
 unfolding refusedLine
@@ -206,69 +257,112 @@ module _ (block : List ℕ) (w : World) (r : Right block w) (g : goes block w �
   abbrev v : World
   v = turnOf block w
 
-  -- bytes are gathered, and the command is not whole
-  turn-part : length (b block w r reading) < sizeOf (b block w r reading) → Right block v × Feeds block w v
-  unfolding turnOf
-  turn-part h =
-      let s = some block w r reading in
-      let m = b-length block w r reading in
-      let long = r .long in
-      let written = r .written in
-      let k = kept-all (d block w r reading) (w .held + n block w r reading) (omega arith) (omega arith) in
-      rw (ran-part (w .session) (b block w r reading) (w .packet) (w .collecting) (w .out) (w .written) h, k) (
-        record { part = λ z. omega arith; held = omega arith; long = omega arith; read = s .2; written = written },
+  module _ (n end : ℕ) (d x : List ℕ) (tk : Takes block w n end d x) (same : length d ≡ length (w .command))
+      (past : w .read + n ≤ length block) where
+    -- after it
+    abbrev after : World
+    after =
+        let y = ranOf (w .session) x (w .packet) (w .collecting) (w .out) (w .written) in
         record {
-          text = [];
-          written = sym (wrote-none (w .out) (w .written));
-          within = omega arith;
-          rest = λ more. ap (textOf (w .session) (w .packet) (w .collecting)) (ahead-split block w r reading more);
-        },
-      )
+          session = y .0 .session;
+          held = keptOf d end;
+          command = d;
+          read = w .read + n;
+          packet = y .1;
+          collecting = y .2;
+          out = y .3;
+          written = y .0 .at;
+        }
 
-  -- the command is carried out
-  turn-whole : sizeOf (b block w r reading) ≤ length (b block w r reading) → Right block v × Feeds block w v
-  unfolding turnOf actedOf
-  turn-whole h =
+    -- bytes are gathered, and the command is not whole
+    turn-part : length x < sizeOf x → Right block after × Feeds block w after
+    turn-part h =
+        let p = tk .part h in
+        let q : length x ≡ end = ap length (sym (p .0)) ∙ length-take-le end d (p .1) in
+        let long = r .long in
+        let written = r .written in
+        let held = p .1 in
+        let k = kept-all d end (p .1) (rw (p .0) (omega arith)) in
+        rw (ran-part (w .session) x (w .packet) (w .collecting) (w .out) (w .written) h, k) (
+          record { part = λ z. rw (p .0) (omega arith); held = omega arith; long = omega arith; read = past; written = written },
+          record {
+            text = [];
+            written = sym (wrote-none (w .out) (w .written));
+            within = omega arith;
+            rest = λ more. ap (textOf (w .session) (w .packet) (w .collecting)) (tk .ahead-split more ∙ rw (p .0));
+          },
+        )
+
+    -- the command is carried out
+    turn-whole : sizeOf x ≤ length x → Right block after × Feeds block w after
+    unfolding actedOf
+    turn-whole h =
+        let long = r .long in
+        let k = tk .none h in
+        let q = doneOf (w .session) (w .packet) (w .collecting) x in
+        let room = leb-true (w .written + 152) (length (w .out)) (free .0) in
+        let short = done-152 (w .session) (w .packet) (w .collecting) x in
+        let o = wrote (w .out) (w .written) (q .text) in
+        let e : o .0 ≡ w .written + length (q .text) = wrote-end (w .out) (w .written) (q .text) in
+        let l : length (o .1) ≡ length (w .out) = length-wrote (w .out) (w .written) (q .text) (omega arith) in
+        let y = pour-claim (q .session) (q .packet) (w .collecting) (o .1) (o .0) (omega arith) in
+        let z = pouredOf (q .session) (q .packet) (w .collecting) (o .1) (o .0) in
+        let within = y .within in
+        let i : z .0 .at ≡ o .0 + length (y .text) =
+        ap (λ (t : ℕ × List ℕ). t .0) (y .written) ∙ wrote-end (o .1) (o .0) (y .text) in
+        let j : length (z .2) ≡ length (o .1) =
+        ap (λ (t : ℕ × List ℕ). length (t .1)) (y .written) ∙ length-wrote (o .1) (o .0) (y .text) within in
+        rw (ran-whole (w .session) x (w .packet) (w .collecting) (w .out) (w .written) h _ _ _ refl _ _ _ refl, k) (
+          record { part = λ f. absurd (f refl); held = omega arith; long = omega arith; read = past; written = omega arith },
+          record {
+            text = q .text ++ y .text;
+            written = y .written ∙ wrote-append (w .out) (w .written) (q .text) (y .text) (omega arith);
+            within = rw length-append (omega arith);
+            rest = λ more.
+                ap (textOf (w .session) (w .packet) (w .collecting)) (tk .ahead-split more)
+                ∙ done-text (w .session) (w .packet) (w .collecting) x _ (tk .first) (free .1) (free .2) h (tk .within)
+                ∙ ap (λ (t : List ℕ). q .text ++ t)
+                (text-behind (q .session) (q .packet) (w .collecting) _ (y .text) (z .0 .session) (z .1) (y .owed))
+                ∙ sym (append-assoc (q .text) (y .text) _);
+          },
+        )
+
+    turn-takes : Right block after × Feeds block w after
+    turn-takes = go (ltb (length x) (sizeOf x)) refl
+      where
+        go : (t : Bool) → ltb (length x) (sizeOf x) ≡ t → Right block after × Feeds block w after
+        go true e = turn-part (ltb-true _ _ e)
+        go false e = turn-whole (ltb-false _ _ e)
+
+    turn-made : (record { took = n; gathered = end }, d) ≡ takenOf (w .command) (w .held) block (w .read)
+        → x ≡ sourceOf d end block (w .read) (w .read + n) → Right block v × Feeds block w v
+    turn-made e q =
+        rw (turn-by block w (record { took = n; gathered = end }) d e x q _ _ _ _ refl _ refl) turn-takes
+
+  gathered-feeds : takenOf (w .command) (w .held) block (w .read) ≡ gatheredOf (w .command) (w .held) block (w .read)
+      → Right block v × Feeds block w v
+  unfolding gatheredOf
+  gathered-feeds e =
       let s = some block w r reading in
-      let x = b block w r reading in
-      let m = b-length block w r reading in
-      let long = r .long in
-      let k = kept-none (d block w r reading) (w .held + n block w r reading) (omega arith) (omega arith) in
-      let q = doneOf (w .session) (w .packet) (w .collecting) x in
-      let room = leb-true (w .written + 152) (length (w .out)) (free .0) in
-      let short = done-152 (w .session) (w .packet) (w .collecting) x in
-      let o = wrote (w .out) (w .written) (q .text) in
-      let e : o .0 ≡ w .written + length (q .text) = wrote-end (w .out) (w .written) (q .text) in
-      let l : length (o .1) ≡ length (w .out) = length-wrote (w .out) (w .written) (q .text) (omega arith) in
-      let y = pour-claim (q .session) (q .packet) (w .collecting) (o .1) (o .0) (omega arith) in
-      let z = pouredOf (q .session) (q .packet) (w .collecting) (o .1) (o .0) in
-      let within = y .within in
-      let i : z .0 .at ≡ o .0 + length (y .text) =
-      ap (λ (t : ℕ × List ℕ). t .0) (y .written) ∙ wrote-end (o .1) (o .0) (y .text) in
-      let j : length (z .2) ≡ length (o .1) =
-      ap (λ (t : ℕ × List ℕ). length (t .1)) (y .written) ∙ length-wrote (o .1) (o .0) (y .text) within in
-      rw (ran-whole (w .session) x (w .packet) (w .collecting) (w .out) (w .written) h _ _ _ refl _ _ _ refl, k) (
-        record { part = λ f. absurd (f refl); held = omega arith; long = omega arith; read = s .2; written = omega arith },
-        record {
-          text = q .text ++ y .text;
-          written = y .written ∙ wrote-append (w .out) (w .written) (q .text) (y .text) (omega arith);
-          within = rw length-append (omega arith);
-          rest = λ more.
-              ap (textOf (w .session) (w .packet) (w .collecting)) (ahead-split block w r reading more)
-              ∙ done-text (w .session) (w .packet) (w .collecting) x _ (omega arith) (free .1) (free .2) h
-              (b-within block w r reading)
-              ∙ ap (λ (t : List ℕ). q .text ++ t)
-              (text-behind (q .session) (q .packet) (w .collecting) _ (y .text) (z .0 .session) (z .1) (y .owed))
-              ∙ sym (append-assoc (q .text) (y .text) _);
-        },
-      )
+      let end = w .held + n block w r reading in
+      let q = source-gathered (d block w r reading) block (w .read) (w .read + n block w r reading) end (λ z. omega arith) in
+      turn-made _ end _ _ (gathers block w r reading) (s .3) (s .2) (sym e) (sym q)
 
   turn-feeds : Right block v × Feeds block w v
-  turn-feeds = go (ltb (length (b block w r reading)) (sizeOf (b block w r reading))) refl
+  turn-feeds = go (eqb (w .held) 0) (eqb (wholeSize (drop (w .read) block)) 0) refl refl
     where
-      go : (t : Bool) → ltb (length (b block w r reading)) (sizeOf (b block w r reading)) ≡ t → Right block v × Feeds block w v
-      go true e = turn-part (ltb-true _ _ e)
-      go false e = turn-whole (ltb-false _ _ e)
+      go : (x y : Bool) → eqb (w .held) 0 ≡ x → eqb (wholeSize (drop (w .read) block)) 0 ≡ y → Right block v × Feeds block w v
+      go false y e f = gathered-feeds (taken-held (w .command) (w .held) block (w .read) (eqb-false _ _ e))
+      go true true e f = gathered-feeds (taken-part (w .command) (w .held) block (w .read) (eqb-true _ _ f))
+      go true false e f =
+          let h = eqb-true (w .held) 0 e in
+          let z = eqb-false (wholeSize (drop (w .read) block)) 0 f in
+          let n = wholeSize (drop (w .read) block) in
+          let q = source-block (w .command) block (w .read) (w .read + n) in
+          let l : w .read + n ≤ length block =
+          omega (arith, whole-front (drop (w .read) block) z .within, length-drop (w .read) block, reading) in
+          turn-made n 0 (w .command) (take n (drop (w .read) block)) (from-block block w h z) refl l
+          (sym (taken-whole (w .command) (w .held) block (w .read) h z)) (sym (rw add-sub-cancel-left at q))
 
 -- nothing is read, and one turn after another
 feeds-none : (block : List ℕ) (w : World) → Right block w → Feeds block w w

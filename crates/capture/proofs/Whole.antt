@@ -1,11 +1,11 @@
 -- Why a capture that is fed at once is read to its end where there is room: next stays owed only for want of room.
 use Prim.Native.Nat.{ℕ, zero, suc, _-_, _<_, _≤_}
 use mathlib.Core.Path.{_≡_, refl, sym, _∙_, ap}
-use mathlib.Core.Bool.{Bool, true, false, cond, _&&_, not, and-true, true≢false}
+use mathlib.Core.Bool.{Bool, true, false, _&&_, and-true, true≢false}
 use mathlib.Core.List.{List, [], _++_, append-nil}
 use native.Mathlib.Omega.{arith}
-use borrow.Author.Tests.{ltb-true, ltb-false, le-ltb}
-use lib.ListN.{length, take, drop, drop-of-length-le}
+use borrow.Author.Tests.{ltb-false}
+use lib.ListN.{length, drop, drop-of-length-le}
 use lib.Dec.{ltb}
 use Rattle.delivery.specs.Choice.{by-test}
 use Rattle.delivery.specs.declared.event.Event.{Event}
@@ -18,7 +18,7 @@ use Rattle.capture.specs.Command.{sizeOf}
 use Rattle.capture.specs.Waits.{waits, next-falls}
 use Rattle.capture.specs.Capture.{eventLine, tallied, lastLine, textOf, captureOf}
 use Rattle.capture.specs.Steps.{Poured, pourBy, roomy, actedOf, pouredBy, pouredOf}
-use Rattle.capture.specs.Feed.{World, Wants, keptOf, Ran, ranOf, goesBy, goes, turnOf, turn-wants, turn-reads, goes-read, fedBy, fedFrom}
+use Rattle.capture.specs.Feed.{World, Wants, Ran, ranOf, goesBy, goes, turnOf, turn-wants, turn-reads, goes-read, fedBy, fedFrom}
 use Rattle.capture.specs.Feed.{entered, leftBy, fed-long, keeps-none}
 use Rattle.capture.specs.Claims.{ahead}
 use Rattle.capture.specs.Plays.{Player, first, fed, afterFeed, WholeClaim}

@@ -3,7 +3,7 @@ ghost use mathlib.Core.Path.{_≡_};
 ghost use Prim.Native.Nat.{min, _+_, _≤_};
 ghost use lib.ListN.{length};
 ghost use Rattle.capture.specs.Session.{isEnded};
-ghost use Rattle.capture.specs.Feed.{wantedOf, keptOf, Keeps, gatheredOf, ranOf, goesBy, fedOf};
+ghost use Rattle.capture.specs.Feed.{wantedOf, keptOf, Keeps, wholeSize, gatheredOf, takenOf, sourceOf, ranOf, goesBy, fedOf};
 use crate::act::act;
 use crate::command::size;
 use crate::pour::has_room;
@@ -64,16 +64,79 @@ fn keep(command: &[u8], held: usize) -> usize
     0
 }
 
-// The bytes that are wanted come to the command memory, as far as the block has them; answers how many.
-fn gather(command: &mut [u8], held: usize, block: &[u8], read: usize) -> usize
+// How many bytes a command has that stands whole at the front of `b`, an unknown one its first; 0 where it is not whole.
+fn whole_size(b: &[u8]) -> usize
+    ensures { λ r. ⌜ (r ≡ wholeSize (now (b .entry))) × (r ≤ length (now (b .entry))) ⌝ }
+{
+    if b.len() == 0 {
+        return 0;
+    }
+    let n = size(b);
+    if n == 0 {
+        return 1;
+    }
+    if b.len() < n {
+        return 0;
+    }
+    n
+}
+
+// The bytes of the block that a turn takes, and where its command stands.
+struct Turn {
+    // How many bytes of the block.
+    took: usize,
+    // How many bytes of the command stand in the command memory; 0 where it stands whole in the block.
+    gathered: usize,
+}
+
+// The bytes that are wanted come to the command memory, as far as the block has them.
+fn gather(command: &mut [u8], held: usize, block: &[u8], read: usize) -> Turn
     requires { ⌜ Keeps (now command) held × (65538 ≤ length (now command)) × (read ≤ length (now block)) ⌝ }
     ensures { λ r. ⌜ (r, now (command .exit)) ≡ gatheredOf (now (command .entry)) held (now (block .entry)) read ⌝ }
 {
     let most = wanted(&command[..held]);
-    let n = smaller(most, block.len() - read);
-    let end = read + n;
+    let took = smaller(most, block.len() - read);
+    let end = read + took;
     wire::memory::copy_at(command, held, &block[read..end]);
-    n
+    Turn {
+        took,
+        gathered: held + took,
+    }
+}
+
+// A command that stands whole in the block is taken from there; else bytes are gathered behind those that are held.
+fn take_bytes(command: &mut [u8], held: usize, block: &[u8], read: usize) -> Turn
+    requires { ⌜ Keeps (now command) held × (65538 ≤ length (now command)) × (read ≤ length (now block)) ⌝ }
+    ensures { λ r. ⌜ (r, now (command .exit)) ≡ takenOf (now (command .entry)) held (now (block .entry)) read ⌝ }
+{
+    if held != 0 {
+        return gather(command, held, block, read);
+    }
+    let n = whole_size(&block[read..]);
+    if n == 0 {
+        return gather(command, held, block, read);
+    }
+    Turn {
+        took: n,
+        gathered: 0,
+    }
+}
+
+// The command's bytes.
+fn source<'a>(
+    command: &'a [u8],
+    gathered: usize,
+    block: &'a [u8],
+    from: usize,
+    to: usize,
+) -> &'a [u8]
+    requires { ⌜ (gathered ≤ length (now command)) × (from ≤ to) × (to ≤ length (now block)) ⌝ }
+    ensures { λ r. ⌜ now r ≡ sourceOf (now (command .entry)) gathered (now (block .entry)) from to ⌝ }
+{
+    if gathered == 0 {
+        return &block[from..to];
+    }
+    &command[..gathered]
 }
 
 // The command that is held, carried out if it is whole, with the lines of what next gives; an unknown one ends the session.
@@ -152,13 +215,14 @@ pub fn feed(
     let mut read = 0;
     let mut written = 0;
     while goes_on(next, read, block.len(), written, out.len()) {
-        let n = gather(command, kept, block, read);
-        let end = kept + n;
-        let ran = run(next, &command[..end], packet, collecting, out, written);
+        let turn = take_bytes(command, kept, block, read);
+        let end = read + turn.took;
+        let b = source(command, turn.gathered, block, read, end);
+        let ran = run(next, b, packet, collecting, out, written);
         next = ran.session;
         written = ran.at;
-        kept = keep(command, end);
-        read += n;
+        kept = keep(command, turn.gathered);
+        read = end;
     }
     Fed {
         session: next,

@@ -1,6 +1,6 @@
 -- Why the text of a capture in memory is what the program prints, as far as it has room.
-use Prim.Native.Nat.{ℕ, _+_, _<_, _≤_}
-use mathlib.Core.Path.{_≡_, refl, sym, _∙_, ap}
+use Prim.Native.Nat.{ℕ, _+_}
+use mathlib.Core.Path.{_≡_, refl, _∙_, ap}
 use mathlib.Core.Bool.{Bool, true, false}
 use mathlib.Core.List.{List, [], _++_, append-nil}
 use native.Mathlib.Omega.{arith}
@@ -9,9 +9,8 @@ use lib.ListN.{length, replicate, length-append, length-replicate}
 use lib.Dec.{leb}
 use Rattle.lines.specs.Text.{wrote, written-end, written-length, written-more}
 use Rattle.lines.specs.Line.{end-67}
-use Rattle.capture.specs.declared.session.Tally.{Tally}
 use Rattle.capture.specs.Capture.{lastLine, captureOf}
-use Rattle.capture.specs.Steps.{roomy, finishedOf, finish-full, finish-line}
+use Rattle.capture.specs.Steps.{roomy, finish-full, finish-line}
 use Rattle.capture.specs.Feed.{Left}
 use Rattle.capture.specs.Plays.{fed, first, AtOnce}
 use Rattle.capture.proofs.Whole.{whole-claim}

@@ -6,11 +6,10 @@ use mathlib.Core.List.{List}
 use native.Mathlib.Omega.{arith}
 use borrow.Author.Needs.{needs}
 use borrow.Author.Tests.{leb-true}
-use lib.ListN.{length, length-take}
-use lib.Seq.{length-take-le}
+use lib.ListN.{length}
 use Rattle.capture.specs.declared.session.Session.{Session}
-use Rattle.capture.specs.Feed.{World, Keeps, goesBy, goes-room, goes-read, gathered-some, turn-by, fedFrom, fed-turn}
-use Rattle.capture.specs.Feed.{fed-stops, fed-short, fed-long}
+use Rattle.capture.specs.Feed.{World, Keeps, goesBy, goes-room, goes-read, taken-by, source-some, turn-by}
+use Rattle.capture.specs.Feed.{fedFrom, fed-turn, fed-stops, fed-short, fed-long}
 use Rattle.capture.proofs.feed.feed.Statement.{statement}
 use Rattle.capture.proofs.feed.feed.Tie as tie
 
@@ -38,20 +37,20 @@ abbrev μ-loop : tie.MeasureT-loop
 μ-loop _ _ block _ _ _ _ _ _ _ _ _ _ _ _ _ read _ = length block - read
 
 -- the turn is made
-goes : (g : tie.After-gather Inv-loop μ-loop) → let l = g .before .before .before .before in
+goes : (g : tie.After-take-bytes Inv-loop μ-loop) → let l = g .before .before .before .before in
     let block = l .before .before .before .before .before .before .before .before .before .args .block .now in
     goesBy (l .loop .next) (l .loop .read) (length block) (l .loop .written) (length (l .loop .out)) ≡ true
 goes g = let i = g .before .before in sym (i .before .goes-on .ensures) ∙ i .if2 .taken
 
--- what came to the command memory
-took : (g : tie.After-gather Inv-loop μ-loop) → let l = g .before .before .before .before in
+-- how much it takes, and where that stands
+took : (g : tie.After-take-bytes Inv-loop μ-loop) → let l = g .before .before .before .before in
     let block = l .before .before .before .before .before .before .before .before .before .args .block .now in
-    (1 ≤ g .gather .result) × (l .loop .kept + g .gather .result ≤ 65538)
-    × (l .loop .read + g .gather .result ≤ length block)
-    × (length (g .gather .last .0) ≡ length (l .loop .command))
+    (1 ≤ g .take-bytes .result .took) × (l .loop .read + g .take-bytes .result .took ≤ length block)
+    × (g .take-bytes .result .gathered ≤ 65538)
+    × (length (g .take-bytes .last .0) ≡ length (l .loop .command))
 took g =
     let l = g .before .before .before .before in
-    gathered-some _ _ _ _ _ _ (g .gather .ensures) (l .loop .inv .1) (goes-read _ _ _ _ _ (goes g)) (l .loop .inv .3)
+    taken-by _ _ _ _ _ _ (g .take-bytes .ensures) (l .loop .inv .1) (goes-read _ _ _ _ _ (goes g)) (l .loop .inv .3)
 
 returns : tie.Need-returns Inv-loop μ-loop
 returns c = sym (fed-short _ _ _ _ _ _ _ (c .if1 .taken))
@@ -65,58 +64,54 @@ loop-holds c = (refl, c .keep .ensures .1, omega arith, c .before .before .if1 .
 goes-on-requires : tie.Need-goes-on-requires Inv-loop μ-loop
 goes-on-requires c κs = search needs
 
-gather-requires : tie.Need-gather-requires Inv-loop μ-loop
-gather-requires c κs = let l = c .before .before .before .loop .inv in (l .1, l .3, l .2)
+take-bytes-requires : tie.Need-take-bytes-requires Inv-loop μ-loop
+take-bytes-requires c κs = let l = c .before .before .before .loop .inv in (l .1, l .3, l .2)
 
 add-end : tie.Need-add-end Inv-loop μ-loop
-add-end c = record { fits = omega (arith, took (c .before .before) .1) }
+add-end c =
+    let g = c .before .before .before in
+    let s = g .before .before .before .before .before .before .before .before .before .before .before .before .before in
+    record { fits = omega (arith, took g .1, s .good .1 .1 .1 .0) }
 
-slice-reshare-prefix-run : tie.Need-slice-reshare-prefix-run Inv-loop μ-loop
-slice-reshare-prefix-run c =
-    let t = took (c .before .before) in
-    omega (arith, t .1, t .3, c .before .before .before .before .before .before .loop .inv .3)
-
-slice-aggregate-run : tie.Need-slice-aggregate-run Inv-loop μ-loop
-slice-aggregate-run c =
-    let t = took (c .before .before .before) in
-    sym (length-take-le _ _ (omega (arith, t .1, t .3, c .before .before .before .before .before .before .before .loop .inv .3)))
+source-requires : tie.Need-source-requires Inv-loop μ-loop
+source-requires c κs =
+    let g = c .before .before .before .before in
+    let l = g .before .before .before .before .loop in
+    let t = took g in
+    (omega (arith, t .2, t .3, l .inv .3), omega arith, t .1)
 
 run-requires : tie.Need-run-requires Inv-loop μ-loop
 run-requires c κs =
-    let g = c .before .before .before .before .before .before in
+    let g = c .before .before .before .before .before .before .before .before in
     let l = g .before .before .before .before in
     let t = took g in
     let h = leb-true (l .loop .written + 152) (length (l .loop .out)) (goes-room _ _ _ _ _ (goes g)) in
-    (rw length-take (omega (arith, t .0, t .1, t .3, l .loop .inv .3)), h)
+    (rw (c .before .before .before .source .ensures) (source-some _ _ _ _ _ (t .0) (t .1) (omega (arith, t .2, t .3, l .loop .inv .3))), h)
 
 keep-requires-2 : tie.Need-keep-requires-2 Inv-loop μ-loop
 keep-requires-2 c κs = search needs
 
--- from the turn's end back to what was gathered
-abbrev gathered : tie.After-keep2 Inv-loop μ-loop → tie.After-gather Inv-loop μ-loop
-gathered c =
+-- from the turn's end back to what was taken
+abbrev taken : tie.After-keep2 Inv-loop μ-loop → tie.After-take-bytes Inv-loop μ-loop
+taken c =
     let r = c .before .before .before .before .before .before .before .before .before in
-    r .before .before .before .before .before .before .before
-
-add-read : tie.Need-add-read Inv-loop μ-loop
-add-read c =
-    let g = gathered c in
-    let s = g .before .before .before .before .before .before .before .before .before .before .before .before .before in
-    record { fits = omega (arith, took g .2, s .good .1 .1 .1 .0) }
+    r .before .before .before .before .before .before .before .before .before
 
 loop-less : tie.Need-loop-less Inv-loop μ-loop
-loop-less c = let g = gathered c in omega (arith, took g .0, took g .2)
+loop-less c = let g = taken c in omega (arith, took g .0, took g .1)
 
 loop-again : tie.Need-loop-again Inv-loop μ-loop
 loop-again c =
     let r = c .before .before .before .before .before .before .before .before .before in
-    let g = r .before .before .before .before .before .before .before in
+    let g = taken c in
     let l = g .before .before .before .before .loop in
     let t = took g in (
-      ap (fedFrom _) (sym (turn-by _ _ _ _ (g .gather .ensures) _ _ _ _ (r .run .ensures) _ (c .keep2 .ensures .0)))
+      ap (fedFrom _)
+          (sym (turn-by _ _ _ _ (g .take-bytes .ensures) _ (r .before .before .before .before .source .ensures) _ _ _ _
+          (r .run .ensures) _ (c .keep2 .ensures .0)))
           ∙ sym (fed-turn _ _ (l .inv .1 .some) (goes g)) ∙ l .inv .0,
       c .keep2 .ensures .1,
-      t .2,
+      t .1,
       omega (arith, t .3, l .inv .3),
       t .3 ∙ l .inv .4,
       r .run .kept .1 .1 .0 ∙ l .inv .5,
@@ -153,13 +148,11 @@ feed-spec =
     keep-requires
     loop-holds
     goes-on-requires
-    gather-requires
+    take-bytes-requires
     add-end
-    slice-reshare-prefix-run
-    slice-aggregate-run
+    source-requires
     run-requires
     keep-requires-2
-    add-read
     loop-less
     loop-again
     same-length

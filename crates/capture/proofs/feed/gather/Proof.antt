@@ -37,6 +37,9 @@ part-copy-at-end c = search needs
 copy-at-requires : tie.Need-copy-at-requires
 copy-at-requires c κs = search needs
 
+add-t11 : tie.Need-add-t11
+add-t11 c = search needs
+
 same-length : tie.Need-same-length
 same-length c = search needs
 
@@ -61,5 +64,6 @@ gather-spec =
     part-copy-at-start
     part-copy-at-end
     copy-at-requires
+    add-t11
     same-length
     returns)

@@ -1,0 +1,36 @@
+-- Why `source` meets its contract: the block's bytes, or those that were gathered.
+use mathlib.Core.Path.{sym}
+use borrow.Author.Needs.{needs}
+use lib.Seq.{length-take-le}
+use Rattle.capture.specs.Feed.{source-block, source-gathered}
+use Rattle.capture.proofs.feed.source.Statement.{statement}
+use Rattle.capture.proofs.feed.source.Tie as tie
+
+sub-result : tie.Need-sub-result
+sub-result c = search needs
+
+part-result-start : tie.Need-part-result-start
+part-result-start c = search needs
+
+part-result-end : tie.Need-part-result-end
+part-result-end c = search needs
+
+returns : tie.Need-returns
+returns c = rw (c .before .if1 .taken) (sym (source-block _ _ _ _))
+
+slice-aggregate-result : tie.Need-slice-aggregate-result
+slice-aggregate-result c = sym (length-take-le _ _ (c .before .before .pre .0))
+
+returns-2 : tie.Need-returns-2
+returns-2 c = sym (source-gathered _ _ _ _ _ (c .before .if1 .left))
+
+pub source-spec : {M : Type 1} → statement M
+source-spec =
+    tie.close
+    (tie.spec
+    sub-result
+    part-result-start
+    part-result-end
+    returns
+    slice-aggregate-result
+    returns-2)
