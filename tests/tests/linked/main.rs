@@ -12,5 +12,7 @@ mod packer;
 #[cfg(not(linked))]
 #[test]
 fn the_library_is_linked() {
-    panic!("LINKED_LIB is not set: it is the whole path of target/staticlib/liblinked.a (see .ci/run)");
+    panic!(
+        "LINKED_LIB is not set: it is the whole path of target/staticlib/liblinked.a (see .ci/run)"
+    );
 }
