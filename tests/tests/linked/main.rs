@@ -1,4 +1,5 @@
-//! The proved library beside the second decoder: both memories after each call, the packer, the cutter.
+//! The proved library beside the second decoder: both memories after each call, a capture's text, the
+//! packer, the cutter.
 
 #[cfg(linked)]
 mod calls;
@@ -7,7 +8,11 @@ mod cutter;
 #[cfg(linked)]
 mod library;
 #[cfg(linked)]
+mod memories;
+#[cfg(linked)]
 mod packer;
+#[cfg(linked)]
+mod text;
 
 #[cfg(not(linked))]
 #[test]
