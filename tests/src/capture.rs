@@ -149,14 +149,16 @@ impl Capture {
         rest
     }
 
-    /// The end of the input: a cut command isn't carried out. Writes the last line.
-    pub fn finish(self, lines: &mut Vec<u8>) {
+    /// The end of the input: a cut command isn't carried out. Writes the last line, and gives packet
+    /// memory and collecting memory back.
+    pub fn finish(self, lines: &mut Vec<u8>) -> (Vec<u8>, Vec<u8>) {
         let mut line = Line::new();
         line.word(b"end");
         for number in [self.frames, self.units, self.notes] {
             line.number(number);
         }
         line.end(lines);
+        (self.packet_memory, self.collecting)
     }
 
     fn command(&self, bytes: &[u8]) -> Command {

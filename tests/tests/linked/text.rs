@@ -21,9 +21,7 @@ fn second(capture: &[u8], (packet, collecting): Memories) -> (Vec<u8>, Memories)
     let mut reading = Capture::with_memories(packet, collecting);
     let mut lines = Vec::new();
     reading.feed(capture, &mut lines);
-    let after = reading.memories();
-    let after = (after.0.to_vec(), after.1.to_vec());
-    reading.finish(&mut lines);
+    let after = reading.finish(&mut lines);
     (lines, after)
 }
 
