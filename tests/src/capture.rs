@@ -83,7 +83,7 @@ impl Capture {
     /// bytes behind it, or none where no call is made.
     pub fn call_once<'a>(&mut self, rest: &'a [u8], lines: &mut Vec<u8>) -> Option<&'a [u8]> {
         if self.owed {
-            self.call_next(lines);
+            self.call_next(true, lines);
             return Some(rest);
         }
         if rest.is_empty() || self.ended() {
@@ -173,11 +173,13 @@ impl Capture {
         }
     }
 
-    /// A whole command, and then next until nothing waits.
+    /// A whole command, and then next until nothing waits. It stays a function, so that it is as fast in
+    /// every program.
+    #[inline(never)]
     fn carry_out(&mut self, command: &[u8], lines: &mut Vec<u8>) {
         self.call_command(command, lines);
-        while self.owed {
-            self.call_next(lines);
+        if self.owed {
+            self.call_next(false, lines);
         }
     }
 
@@ -227,38 +229,49 @@ impl Capture {
         Ok(true)
     }
 
-    /// One call of next, and its line.
-    fn call_next(&mut self, lines: &mut Vec<u8>) {
+    /// Calls of next, each with its line: one, or until nothing waits.
+    #[inline(always)]
+    fn call_next(&mut self, once: bool, lines: &mut Vec<u8>) {
         let Stage::Running(receiver) = &mut self.stage else {
             return;
         };
-        match receiver.next(&self.packet_memory, &mut self.collecting) {
-            Ok(Event::Nothing) => self.owed = false,
-            Ok(Event::Note { number, packet_id }) => {
-                self.notes += 1;
-                let line = self.line.of(self.frames, self.slot);
-                line.word(b" note");
-                line.number(number.into());
-                match packet_id {
-                    Some(id) => line.number(id.into()),
-                    None => line.word(b" -"),
+        let (packet_memory, collecting) = (&self.packet_memory[..], &mut self.collecting[..]);
+        let refusal = loop {
+            match receiver.next(packet_memory, collecting) {
+                Ok(Event::Nothing) => {
+                    self.owed = false;
+                    return;
                 }
-                line.end(lines);
+                Ok(Event::Note { number, packet_id }) => {
+                    self.notes += 1;
+                    let line = self.line.of(self.frames, self.slot);
+                    line.word(b" note");
+                    line.number(number.into());
+                    match packet_id {
+                        Some(id) => line.number(id.into()),
+                        None => line.word(b" -"),
+                    }
+                    line.end(lines);
+                }
+                Ok(Event::Unit(unit)) => {
+                    self.units += 1;
+                    let shown = calls::show(&unit, packet_memory, collecting);
+                    let line = self.line.of(self.frames, self.slot);
+                    line.word(b" unit");
+                    line.number(unit.packet_id.into());
+                    line.number(unit.kind.into());
+                    line.number(unit.psn.into());
+                    line.number(unit.mpu.into());
+                    line.number(shown.len() as u64);
+                    line.end(lines);
+                }
+                Err(number) => break number,
             }
-            Ok(Event::Unit(unit)) => {
-                self.units += 1;
-                let shown = calls::show(&unit, &self.packet_memory, &self.collecting);
-                let line = self.line.of(self.frames, self.slot);
-                line.word(b" unit");
-                line.number(unit.packet_id.into());
-                line.number(unit.kind.into());
-                line.number(unit.psn.into());
-                line.number(unit.mpu.into());
-                line.number(shown.len() as u64);
-                line.end(lines);
+            if once {
+                return;
             }
-            Err(number) => self.refused(number, lines),
-        }
+        };
+        self.refused(refusal, lines);
     }
 }
 
