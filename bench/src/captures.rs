@@ -1,4 +1,7 @@
 //! The three captures that are measured, built in memory.
+//!
+//! The capture program lends 65,536 bytes of collecting memory, so n × R is that in each: R is 65,536 where
+//! one packet_id is watched, and 4,096 where 16 are. No unit is longer than R.
 
 use second::generate::broadcast::{capacity, cut};
 use second::generate::commands;
@@ -12,9 +15,13 @@ use second::packets::{UnitFields, KIND_SIGNALLING, KIND_TIMED};
 const MODES: [(u8, u8); 1] = [(0x47, 120)];
 const STREAM: u16 = 0xB110;
 const CID: u16 = 1;
+/// R where one packet_id is watched, and where 16 are.
+const R_ALONE: u32 = 65_536;
+const R_SHARED: u32 = 4_096;
 
 pub struct Measured {
     pub name: &'static str,
+    pub what: &'static str,
     pub capture: Vec<u8>,
 }
 
@@ -94,15 +101,15 @@ fn plans(frames: usize) -> Vec<FramePlan> {
     vec![plan; frames]
 }
 
-/// Video: units of 100,000 to 350,000 bytes of one packet_id, in pieces of 1,400.
+/// Video: units of 20,000 to R bytes of one packet_id, in pieces of 1,400.
 fn video(frames: usize) -> Vec<u8> {
     let plans = plans(frames);
     let mut row = Row::new(2, 1);
     while row.bytes.len() < capacity(&plans) {
-        let len = row.rng.range(100_000, 350_000);
+        let len = row.rng.range(20_000, R_ALONE as usize);
         row.send(0, KIND_TIMED, len);
     }
-    row.capture(plans, 1, 1 << 20, 0)
+    row.capture(plans, 1, R_ALONE, 0)
 }
 
 /// Signalling: whole units of 20 to 180 bytes over 16 packet_ids.
@@ -113,10 +120,11 @@ fn small(frames: usize) -> Vec<u8> {
         let (k, len) = (row.rng.below(16), row.rng.range(20, 180));
         row.send(k, KIND_SIGNALLING, len);
     }
-    row.capture(plans, 16, 4_096, 0)
+    row.capture(plans, 16, R_SHARED, 0)
 }
 
-/// Video and signalling, with 5 slots in 100 lost.
+/// Video and signalling, with 5 slots in 100 lost. About three bytes in four are video, in units of two
+/// or three pieces.
 fn lossy(frames: usize) -> Vec<u8> {
     let plans = plans(frames);
     let mut row = Row::new(4, 16);
@@ -125,24 +133,29 @@ fn lossy(frames: usize) -> Vec<u8> {
             let (k, len) = (row.rng.range(1, 15), row.rng.range(20, 1_200));
             row.send(k, KIND_SIGNALLING, len);
         }
-        let len = row.rng.range(5_000, 60_000);
-        row.send(0, KIND_TIMED, len);
+        for _ in 0..11 {
+            let len = row.rng.range(2_000, R_SHARED as usize);
+            row.send(0, KIND_TIMED, len);
+        }
     }
-    row.capture(plans, 16, 1 << 17, 5)
+    row.capture(plans, 16, R_SHARED, 5)
 }
 
 pub fn all(frames: usize) -> Vec<Measured> {
     vec![
         Measured {
-            name: "video: fragmented units of 100,000 to 350,000 bytes, pieces of 1,400, one packet_id",
+            name: "video",
+            what: "units of 20,000 to 65,536 bytes in pieces of 1,400, one packet_id, R 65,536",
             capture: video(frames),
         },
         Measured {
-            name: "signalling: whole units of 20 to 180 bytes over 16 packet_ids",
+            name: "signalling",
+            what: "whole units of 20 to 180 bytes over 16 packet_ids, R 4,096",
             capture: small(frames),
         },
         Measured {
-            name: "losses: video and signalling over 16 packet_ids, 5 percent of the slots lost",
+            name: "losses",
+            what: "video units of 2,000 to 4,096 bytes and signalling over 16 packet_ids, R 4,096, 5 percent of the slots lost",
             capture: lossy(frames),
         },
     ]

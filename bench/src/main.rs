@@ -1,101 +1,147 @@
-//! Measures the decoders on three captures in memory, beside a plain copy of the same bytes.
+//! Measures the proved decoder beside the second one and beside a plain copy: as whole processes and in
+//! memory, on three captures; and what a command without data costs.
 //!
-//! `bench [FRAMES [ROUNDS]]`. With TOTALS_LIB set at build time, the proved decoder is measured in
-//! the same rounds.
+//! `bench [FRAMES [ROUNDS [PROGRAM]]]`. PROGRAM is the capture program, else TLV_CAPTURE names it.
 
 mod captures;
 mod clock;
+mod commands;
 mod decoders;
+mod memory;
+mod processes;
+mod table;
 
-use std::time::Duration;
+use std::env;
+use std::error::Error;
+use std::io;
+use std::path::PathBuf;
+use std::process::ExitCode;
 
-use captures::Measured;
-use decoders::{Memories, Totals};
+use processes::Programs;
+use table::Times;
+
+/// Where `rt check tlv_capture` writes the capture program.
+const TLV_CAPTURE: &str = concat!(env!("CARGO_MANIFEST_DIR"), "/../target/bin/tlv_capture");
 
 /// What the figures mean.
-const WHAT: &str = "\
-Each line: gigabytes of capture (commands and slot data) per second of processor time, and the ratio
-to a plain copy of the whole capture into memory of the same length. A decoder reads the capture from
-memory to memory and counts frames, units, notes and the bytes of units: the second decoder by start,
-frame, slot, next until nothing waits and show after each unit, the proved one by ixohuemil_totals.
-Building captures, allocating memories and printing are not measured.";
+const PROCESSES: &str = "
+Whole processes: gigabytes of capture per second of wall time, from the start of the process to its end.
+A capture comes from a file in the page cache on standard input, its lines go to /dev/null. Plain copy:
+a process that reads the file in blocks of the same size and copies each to another memory.";
+const MEMORY: &str = "
+In memory: gigabytes of capture per second of processor time. A decoder reads the capture in memory and
+writes its lines to memory. Plain copy: the whole capture to memory of the same length.";
+const COMMANDS: &str = "
+Commands without data: nanoseconds of processor time for each, in memory. F is taken away from the frames
+that L and S come in.";
 
-/// The shortest of all rounds: what the machine does when nobody disturbs it.
-struct Best(Duration);
+/// How much is measured, and which program.
+struct Settings {
+    frames: usize,
+    rounds: usize,
+    program: PathBuf,
+}
 
-impl Best {
-    fn new() -> Self {
-        Best(Duration::MAX)
-    }
-
-    fn time<T>(&mut self, work: impl FnOnce() -> T) -> T {
-        let start = clock::now();
-        let answer = work();
-        self.0 = self.0.min(clock::now() - start);
-        answer
-    }
-
-    fn gigabytes_per_second(&self, bytes: usize) -> f64 {
-        bytes as f64 / self.0.as_secs_f64() / 1e9
+impl Settings {
+    fn new(mut words: impl Iterator<Item = String>) -> Result<Self, Box<dyn Error>> {
+        let mut number = |otherwise| words.next().map_or(Ok(otherwise), |word| word.parse());
+        let (Ok(frames @ 1..), Ok(rounds @ 1..)) = (number(200), number(15)) else {
+            return Err("FRAMES and ROUNDS are decimal numbers above 0".into());
+        };
+        let program = words.next().map(PathBuf::from);
+        let program = program.or_else(|| env::var_os("TLV_CAPTURE").map(PathBuf::from));
+        Ok(Settings {
+            frames,
+            rounds,
+            program: program.unwrap_or(TLV_CAPTURE.into()),
+        })
     }
 }
 
-fn main() {
-    let mut arguments = std::env::args().skip(1).map(|text| text.parse());
-    let mut number = |otherwise| arguments.next().map_or(otherwise, |n| n.expect("a number"));
-    let (frames, rounds) = (number(200), number(9));
-    println!("{WHAT}");
-    println!("The best of {rounds} rounds is given.");
-    for measured in captures::all(frames) {
-        measure(&measured, rounds);
-    }
-}
-
-fn measure(measured: &Measured, rounds: usize) {
-    let capture = &measured.capture[..];
-    let mut target = vec![1; capture.len()];
-    let mut memories = Memories::new();
-    let (mut copy, mut copy_slots, mut second) = (Best::new(), Best::new(), Best::new());
-    #[cfg(proved_decoder)]
-    let mut proved = Best::new();
-    let mut totals = Totals::default();
-    for _ in 0..rounds {
-        copy.time(|| decoders::copy(capture, &mut target));
-        copy_slots.time(|| decoders::copy_slots(capture, &mut memories));
-        totals = second.time(|| decoders::second(capture, &mut memories));
-        #[cfg(proved_decoder)]
-        {
-            let theirs = proved.time(|| decoders::proved(capture, &mut memories));
-            assert_eq!(theirs, totals, "the decoders disagree");
+fn main() -> ExitCode {
+    let mut words = env::args().skip(1).peekable();
+    let done = match words.peek().map(String::as_str) {
+        Some(processes::SECOND) => {
+            second::capture::run(io::stdin().lock(), io::stdout().lock()).map_err(Into::into)
+        }
+        Some(processes::COPY) => processes::copy().map_err(Into::into),
+        _ => Settings::new(words).and_then(|settings| measure(&settings)),
+    };
+    match done {
+        Ok(()) => ExitCode::SUCCESS,
+        Err(error) => {
+            eprintln!("bench: {error}");
+            ExitCode::FAILURE
         }
     }
-    println!("\n{}", measured.name);
-    let Totals {
-        frames,
-        units,
-        notes,
-        unit_bytes,
-    } = totals;
-    let megabytes = capture.len() as f64 / 1e6;
+}
+
+/// A capture's row.
+struct Row {
+    name: &'static str,
+    bytes: usize,
+    processes: Times,
+    memory: Times,
+}
+
+fn measure(settings: &Settings) -> Result<(), Box<dyn Error>> {
+    let rounds = settings.rounds;
+    let programs = Programs::new(&settings.program)?;
     println!(
-        "  {megabytes:.0} MB, {frames} frames, {units} units of {unit_bytes} bytes, {notes} notes"
+        "The best of {rounds} rounds is given; a ratio is one of speeds, above 1 is faster.\n"
     );
-    let line = |what: &str, best: &Best| {
-        let speed = best.gigabytes_per_second(capture.len());
-        let ratio = copy.0.as_secs_f64() / best.0.as_secs_f64();
-        println!("  {what:<44} {speed:7.2} GB/s   ratio {ratio:.2}");
+    let mut rows = Vec::new();
+    for measured in captures::all(settings.frames) {
+        let capture = &measured.capture[..];
+        let (processes, text) = programs.measure(capture, rounds)?;
+        println!("{}: {}", measured.name, measured.what);
+        println!("    {}", summary(capture, &text)?);
+        rows.push(Row {
+            name: measured.name,
+            bytes: capture.len(),
+            processes,
+            memory: memory::measure(capture, &text, rounds)?,
+        });
+    }
+    let (empty, _) = programs.measure(&[], rounds)?;
+
+    println!("{PROCESSES}\n");
+    table::heading("GB/s");
+    for row in &rows {
+        table::speeds(row.name, row.bytes, &row.processes);
+    }
+    let milliseconds = |best: clock::Best| best.seconds() * 1e3;
+    println!(
+        "{:<24} {:>12.2} {:>12.2} {:>12.2}",
+        "empty capture, ms",
+        milliseconds(empty.copy),
+        milliseconds(empty.second),
+        milliseconds(empty.proved)
+    );
+
+    println!("{MEMORY}\n");
+    table::heading("GB/s");
+    for row in &rows {
+        table::speeds(row.name, row.bytes, &row.memory);
+    }
+
+    println!("{COMMANDS}\n");
+    commands::measure(rounds)
+}
+
+/// What a capture comes to, from its text; it must not be refused.
+fn summary(capture: &[u8], text: &[u8]) -> Result<String, Box<dyn Error>> {
+    let last = std::str::from_utf8(text)?.lines().rev().take(2);
+    let last: Vec<&str> = last.collect();
+    if last.iter().any(|line| line.starts_with("refused")) {
+        return Err(format!("the capture is {}", last[1]).into());
+    }
+    let words: Vec<&str> = last[0].split(' ').collect();
+    let ["end", frames, units, notes] = words[..] else {
+        return Err(format!("no end line: {}", last[0]).into());
     };
-    line("plain copy", &copy);
-    line("copy of each slot to one place", &copy_slots);
-    line("second decoder (Rust)", &second);
-    #[cfg(proved_decoder)]
-    line("proved decoder", &proved);
-    #[cfg(proved_decoder)]
-    println!(
-        "  {:<44} {:7.2}",
-        "proved decoder to second decoder",
-        second.0.as_secs_f64() / proved.0.as_secs_f64()
-    );
-    #[cfg(not(proved_decoder))]
-    println!("  {:<44} not linked (TOTALS_LIB)", "proved decoder");
+    let (bytes, lines) = (capture.len() as f64 / 1e6, text.len() as f64 / 1e6);
+    Ok(format!(
+        "{bytes:.1} MB, {frames} frames, {units} units, {notes} notes, {lines:.2} MB of lines"
+    ))
 }

@@ -13,8 +13,11 @@ use crate::Refusal;
 pub const COLLECTING: usize = 65_536;
 /// Length of C with its operands: stream, CID, n, sixteen ids, R.
 pub const START_LEN: usize = 1 + 2 + 2 + 1 + 2 * MAX_IDS + 4;
+/// Bytes that are read from standard input at one go.
+pub const READ_BLOCK: usize = 65_536;
 
-const READ_BLOCK: usize = 65_536;
+/// The longest command: S with its length, and 65,535 bytes.
+const LONGEST_COMMAND: usize = 3 + 65_535;
 
 enum Stage {
     /// Only C is known.
@@ -45,6 +48,7 @@ pub struct Capture {
     slot: u64,
     units: u64,
     notes: u64,
+    line: Line,
 }
 
 impl Default for Capture {
@@ -66,6 +70,7 @@ impl Capture {
             slot: 0,
             units: 0,
             notes: 0,
+            line: Line::new(),
         }
     }
 
@@ -78,7 +83,7 @@ impl Capture {
     /// bytes behind it, or none where no call is made.
     pub fn call_once<'a>(&mut self, rest: &'a [u8], lines: &mut Vec<u8>) -> Option<&'a [u8]> {
         if self.owed {
-            self.call_next(lines);
+            self.call_next(true, lines);
             return Some(rest);
         }
         if rest.is_empty() || self.ended() {
@@ -104,6 +109,14 @@ impl Capture {
         while !self.partial.is_empty() && !rest.is_empty() && !self.ended() {
             rest = self.complete(rest, lines);
         }
+        let read = self.carry_out_all(rest, lines);
+        self.partial.extend_from_slice(&rest[read..]);
+    }
+
+    /// Carries out the whole commands that `bytes` begins with; how many bytes they are. An unknown
+    /// command ends the capture, and all that follows it counts as read.
+    fn carry_out_all(&mut self, bytes: &[u8], lines: &mut Vec<u8>) -> usize {
+        let mut rest = bytes;
         while !rest.is_empty() && !self.ended() {
             match self.command(rest) {
                 Command::Known(len) if len <= rest.len() => {
@@ -111,12 +124,10 @@ impl Capture {
                     rest = &rest[len..];
                 }
                 Command::Unknown => self.stage = Stage::Ended,
-                _ => {
-                    self.partial.extend_from_slice(rest);
-                    rest = &[];
-                }
+                _ => return bytes.len() - rest.len(),
             }
         }
+        bytes.len()
     }
 
     /// Tops the partial command up from the block, and carries it out once it is whole.
@@ -138,9 +149,16 @@ impl Capture {
         rest
     }
 
-    /// The end of the input: a cut command isn't carried out. Writes the last line.
-    pub fn finish(self, lines: &mut Vec<u8>) {
-        put_line(lines, b"end", &[self.frames, self.units, self.notes], b"");
+    /// The end of the input: a cut command isn't carried out. Writes the last line, and gives packet
+    /// memory and collecting memory back.
+    pub fn finish(self, lines: &mut Vec<u8>) -> (Vec<u8>, Vec<u8>) {
+        let mut line = Line::new();
+        line.word(b"end");
+        for number in [self.frames, self.units, self.notes] {
+            line.number(number);
+        }
+        line.end(lines);
+        (self.packet_memory, self.collecting)
     }
 
     fn command(&self, bytes: &[u8]) -> Command {
@@ -155,16 +173,21 @@ impl Capture {
         }
     }
 
-    /// A whole command, and then next until nothing waits.
+    /// A whole command, and then next until nothing waits. It stays a function, so that it is as fast in
+    /// every program.
+    #[inline(never)]
     fn carry_out(&mut self, command: &[u8], lines: &mut Vec<u8>) {
         self.call_command(command, lines);
-        while self.owed {
-            self.call_next(lines);
+        if self.owed {
+            self.call_next(false, lines);
         }
     }
 
     fn refused(&mut self, number: Refusal, lines: &mut Vec<u8>) {
-        put_line(lines, b"refused", &[u64::from(number)], b"");
+        let mut line = Line::new();
+        line.word(b"refused");
+        line.number(number.into());
+        line.end(lines);
         self.stage = Stage::Ended;
         self.owed = false;
     }
@@ -206,33 +229,49 @@ impl Capture {
         Ok(true)
     }
 
-    /// One call of next, and its line.
-    fn call_next(&mut self, lines: &mut Vec<u8>) {
+    /// Calls of next, each with its line: one, or until nothing waits.
+    #[inline(always)]
+    fn call_next(&mut self, once: bool, lines: &mut Vec<u8>) {
         let Stage::Running(receiver) = &mut self.stage else {
             return;
         };
-        let place = [self.frames, self.slot];
-        match receiver.next(&self.packet_memory, &mut self.collecting) {
-            Ok(Event::Nothing) => self.owed = false,
-            Ok(Event::Note { number, packet_id }) => {
-                self.notes += 1;
-                put_numbers(lines, &place);
-                match packet_id {
-                    Some(id) => put_line(lines, b"note", &[number.into(), id.into()], b""),
-                    None => put_line(lines, b"note", &[number.into()], b" -"),
+        let (packet_memory, collecting) = (&self.packet_memory[..], &mut self.collecting[..]);
+        let refusal = loop {
+            match receiver.next(packet_memory, collecting) {
+                Ok(Event::Nothing) => {
+                    self.owed = false;
+                    return;
                 }
+                Ok(Event::Note { number, packet_id }) => {
+                    self.notes += 1;
+                    let line = self.line.of(self.frames, self.slot);
+                    line.word(b" note");
+                    line.number(number.into());
+                    match packet_id {
+                        Some(id) => line.number(id.into()),
+                        None => line.word(b" -"),
+                    }
+                    line.end(lines);
+                }
+                Ok(Event::Unit(unit)) => {
+                    self.units += 1;
+                    let shown = calls::show(&unit, packet_memory, collecting);
+                    let line = self.line.of(self.frames, self.slot);
+                    line.word(b" unit");
+                    line.number(unit.packet_id.into());
+                    line.number(unit.kind.into());
+                    line.number(unit.psn.into());
+                    line.number(unit.mpu.into());
+                    line.number(shown.len() as u64);
+                    line.end(lines);
+                }
+                Err(number) => break number,
             }
-            Ok(Event::Unit(unit)) => {
-                self.units += 1;
-                let shown = calls::show(&unit, &self.packet_memory, &self.collecting);
-                put_numbers(lines, &place);
-                let (id, kind) = (unit.packet_id.into(), unit.kind.into());
-                let (psn, mpu) = (unit.psn.into(), unit.mpu.into());
-                let length = shown.len() as u64;
-                put_line(lines, b"unit", &[id, kind, psn, mpu, length], b"");
+            if once {
+                return;
             }
-            Err(number) => self.refused(number, lines),
-        }
+        };
+        self.refused(refusal, lines);
     }
 }
 
@@ -247,37 +286,87 @@ fn start(command: &[u8]) -> Result<Receiver, Refusal> {
     calls::start(stream_id, cid, command[5], &ids, joined_max)
 }
 
-/// Numbers, each with a space after it.
-fn put_numbers(lines: &mut Vec<u8>, numbers: &[u64]) {
-    for &number in numbers {
-        put_decimal(lines, number);
-        lines.push(b' ');
-    }
+/// A line being written, from frame and slot on, which stay for the next line of the same slot.
+struct Line {
+    bytes: [u8; LONGEST_LINE],
+    len: usize,
+    /// Frame and slot that it begins with, and their length; 0 if it has none.
+    place: (u64, u64),
+    place_len: usize,
 }
 
-/// A word, numbers with a space before each, and the end of the line.
-fn put_line(lines: &mut Vec<u8>, word: &[u8], numbers: &[u64], after: &[u8]) {
-    lines.extend_from_slice(word);
-    for &number in numbers {
-        lines.push(b' ');
-        put_decimal(lines, number);
-    }
-    lines.extend_from_slice(after);
-    lines.push(b'\n');
-}
+/// Two words, seven numbers of at most 20 digits, spaces and the end of the line take less.
+const LONGEST_LINE: usize = 176;
 
-fn put_decimal(lines: &mut Vec<u8>, mut number: u64) {
-    let mut digits = [0; 20];
-    let mut at = digits.len();
-    loop {
-        at -= 1;
-        digits[at] = b'0' + (number % 10) as u8;
-        number /= 10;
-        if number == 0 {
-            break;
+/// The digits of 0 to 99, two each.
+const PAIRS: [[u8; 2]; 100] = {
+    let mut pairs = [[0; 2]; 100];
+    let mut n = 0;
+    while n < 100 {
+        pairs[n] = [b'0' + (n / 10) as u8, b'0' + (n % 10) as u8];
+        n += 1;
+    }
+    pairs
+};
+
+impl Line {
+    fn new() -> Self {
+        Line {
+            bytes: [0; LONGEST_LINE],
+            len: 0,
+            place: (0, 0),
+            place_len: 0,
         }
     }
-    lines.extend_from_slice(&digits[at..]);
+
+    /// A line that begins with frame and slot.
+    #[inline(always)]
+    fn of(&mut self, frame: u64, slot: u64) -> &mut Self {
+        self.len = self.place_len;
+        if self.place != (frame, slot) || self.place_len == 0 {
+            self.len = 0;
+            self.digits(frame);
+            self.number(slot);
+            (self.place, self.place_len) = ((frame, slot), self.len);
+        }
+        self
+    }
+
+    #[inline(always)]
+    fn word(&mut self, word: &[u8]) {
+        self.bytes[self.len..self.len + word.len()].copy_from_slice(word);
+        self.len += word.len();
+    }
+
+    /// A number, with a space before it.
+    #[inline(always)]
+    fn number(&mut self, number: u64) {
+        if number < 10 {
+            self.word(&[b' ', b'0' + number as u8]);
+        } else {
+            self.word(b" ");
+            self.digits(number);
+        }
+    }
+
+    /// A number's digits: those of its hundreds first, then a pair.
+    fn digits(&mut self, number: u64) {
+        if number < 10 {
+            self.word(&[b'0' + number as u8]);
+            return;
+        }
+        if number >= 100 {
+            self.digits(number / 100);
+        }
+        self.word(&PAIRS[(number % 100) as usize]);
+    }
+
+    /// The end of the line: it is appended to `lines`.
+    #[inline(always)]
+    fn end(&mut self, lines: &mut Vec<u8>) {
+        self.word(b"\n");
+        lines.extend_from_slice(&self.bytes[..self.len]);
+    }
 }
 
 /// The lines of a whole capture.
@@ -297,16 +386,21 @@ pub fn write_lines(capture: &[u8], output: &mut impl Write) -> io::Result<()> {
 /// Reads a capture to its end, or to the command that ends it, and writes its lines on the way.
 pub fn run(mut input: impl Read, mut output: impl Write) -> io::Result<()> {
     let mut reading = Capture::default();
-    let mut block = vec![0; READ_BLOCK];
+    // A command of which not all bytes have come stands first; the next block is read behind it.
+    let mut bytes = vec![0; LONGEST_COMMAND + READ_BLOCK];
+    let mut held = 0;
     let mut lines = Vec::new();
     while !reading.ended() {
-        let len = match input.read(&mut block) {
+        let len = match input.read(&mut bytes[held..held + READ_BLOCK]) {
             Ok(0) => break,
             Ok(len) => len,
             Err(error) if error.kind() == io::ErrorKind::Interrupted => continue,
             Err(error) => return Err(error),
         };
-        reading.feed(&block[..len], &mut lines);
+        let end = held + len;
+        let read = reading.carry_out_all(&bytes[..end], &mut lines);
+        bytes.copy_within(read..end, 0);
+        held = end - read;
         output.write_all(&lines)?;
         lines.clear();
     }

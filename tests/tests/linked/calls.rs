@@ -1,26 +1,13 @@
 //! Both memories after each call of a capture, and how many calls there are.
 
-use second::capture::{Capture, COLLECTING, START_LEN};
-use second::fields::be32;
+use second::capture::Capture;
 use second::generate::catalogue::{self, FAMILIES};
-use second::generate::prng::Prng;
-use second::slots::PACKET_MEMORY;
 
 use super::library;
+use super::memories::{filled, Lengths};
 
 /// Captures of each family.
 const EACH: u64 = 60;
-/// The longest collecting memory; a capture that asks for more gets the capture program's.
-const MOST: usize = 300_000;
-
-/// How long the memories are, beside what the capture asks for.
-#[derive(Clone, Copy)]
-enum Lengths {
-    Exact,
-    Longer,
-    PacketShort,
-    CollectingShort,
-}
 
 /// What the captures came to.
 #[derive(Default)]
@@ -29,32 +16,6 @@ struct Compared {
     /// Captures that changed packet memory, and collecting memory.
     packet: u64,
     collecting: u64,
-}
-
-/// n × R of a capture's C.
-fn collecting_len(capture: &[u8]) -> usize {
-    if capture.len() < START_LEN || capture[0] != b'C' {
-        return COLLECTING;
-    }
-    let len = usize::from(capture[5]) * be32(capture, START_LEN - 4) as usize;
-    if len > MOST {
-        COLLECTING
-    } else {
-        len
-    }
-}
-
-/// Two memories with a pseudo-random filling.
-fn filled(number: u64, capture: &[u8], lengths: Lengths) -> (Vec<u8>, Vec<u8>) {
-    let mut rng = Prng::new(number ^ 0xF111);
-    let (mut packet, mut collecting) = (PACKET_MEMORY, collecting_len(capture));
-    match lengths {
-        Lengths::Exact => {}
-        Lengths::Longer => (packet, collecting) = (packet + 7, collecting + 100),
-        Lengths::PacketShort => packet -= 1,
-        Lengths::CollectingShort => collecting = collecting.saturating_sub(1),
-    }
-    (rng.bytes(packet), rng.bytes(collecting))
 }
 
 /// Compares the memories after each number of calls, up to one that the capture does not reach.

@@ -13,6 +13,17 @@ extern "C" {
         calls: u64,
     ) -> u64;
 
+    fn ixohuemil_text(
+        capture: *const u8,
+        capture_len: usize,
+        packet: *mut u8,
+        packet_len: usize,
+        collecting: *mut u8,
+        collecting_len: usize,
+        text: *mut u8,
+        text_len: usize,
+    ) -> u64;
+
     fn ixohuemil_pack(
         packet_id: u16,
         kind: u8,
@@ -69,6 +80,23 @@ pub fn calls(capture: &[u8], packet: &mut [u8], collecting: &mut [u8], calls: u6
             collecting.as_mut_ptr(),
             collecting.len(),
             calls,
+        )
+    }
+}
+
+/// Reads a whole capture, and writes its lines to `text`; how many bytes of text there are.
+pub fn text(capture: &[u8], packet: &mut [u8], collecting: &mut [u8], text: &mut [u8]) -> u64 {
+    // SAFETY: as above.
+    unsafe {
+        ixohuemil_text(
+            capture.as_ptr(),
+            capture.len(),
+            packet.as_mut_ptr(),
+            packet.len(),
+            collecting.as_mut_ptr(),
+            collecting.len(),
+            text.as_mut_ptr(),
+            text.len(),
         )
     }
 }
