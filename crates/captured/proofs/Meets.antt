@@ -28,7 +28,7 @@ use Rattle.broadcast.proofs.Reading.{FramesFit, frames-fit}
 use Rattle.broadcast.proofs.Demand3.{start-at, shows-account, demand-3}
 use Rattle.broadcast.proofs.Broadcast.{broadcast-claims}
 use Rattle.captured.specs.Written.{CanWriteSlots, CanWriteFrames}
-use Rattle.captured.specs.Examples.{startBytes, packetMemory, collectingMemory, UnitsLeft, Examples}
+use Rattle.captured.specs.Examples.{startBytes, leastPacket, leastCollecting, UnitsLeft, Examples}
 use Rattle.captured.specs.Claims.{configIn, Begins, Suffice, UndamagedCapture}
 use Rattle.captured.proofs.FramesRead.{config-same, begins-same, accounts-same, frames-carry}
 use Rattle.captured.proofs.Losses.{capture-loss}
@@ -71,39 +71,39 @@ start-begins : Begins startBytes
 unfolding letterOf startOf startRefusal before twiceBelow twice freshState configOf idsOf be tab lookupOf firstFrom
 start-begins = record { first = refl; long = omega arith; accepted = refl }
 
-long : Memories packetMemory collectingMemory
+long : Memories leastPacket leastCollecting
 long = broadcast-claims .2
 
-undamaged : UndamagedCapture startBytes frames packetMemory collectingMemory
+undamaged : UndamagedCapture startBytes frames leastPacket leastCollecting
 undamaged =
-    let m = broadcast-claims .1 packetMemory collectingMemory long in
-    undamaged-met startBytes frames packetMemory collectingMemory (m .0) refl start-begins
+    let m = broadcast-claims .1 leastPacket leastCollecting long in
+    undamaged-met startBytes frames leastPacket leastCollecting (m .0) refl start-begins
     (rw start-config (record { packet = omega (arith, long .0); collecting = unfold config in omega (arith, long .1) }))
-    (subst (λ (cfg : Config). Assumed cfg frames packetMemory collectingMemory (m .0)) (sym start-config) (m .1))
+    (subst (λ (cfg : Config). Assumed cfg frames leastPacket leastCollecting (m .0)) (sym start-config) (m .1))
 
 -- what demand 3 leaves of the broadcast, by any reading of it
-leaves : (d : Damage) (us : List Content) → Left d us → (ys : List Made) → Reads config frames d packetMemory collectingMemory ys
+leaves : (d : Damage) (us : List Content) → Left d us → (ys : List Made) → Reads config frames d leastPacket leastCollecting ys
     → contents (intactUnits (kept d) (carriedUnits config (slotsOf config frames))) ≡ us
 leaves d us h ys r =
-    let m = broadcast-claims .1 packetMemory collectingMemory long in
+    let m = broadcast-claims .1 leastPacket leastCollecting long in
     let a = m .1 in
     let c =
-    demand-3 config (a .accepted) frames (a .whole-frames) d packetMemory collectingMemory packetMemory collectingMemory refl refl
+    demand-3 config (a .accepted) frames (a .whole-frames) d leastPacket leastCollecting leastPacket leastCollecting refl refl
     (m .0) (a .reads)
     (a .none-refused) (a .no-note) (a .few) in
-    sym (c .damaged ys r .units-left) ∙ h packetMemory collectingMemory long ys r
+    sym (c .damaged ys r .units-left) ∙ h leastPacket leastCollecting long ys r
 
-gives : (d : Damage) (us : List Content) → Left d us → (ys : List Made) → Reads config frames d packetMemory collectingMemory ys
+gives : (d : Damage) (us : List Content) → Left d us → (ys : List Made) → Reads config frames d leastPacket leastCollecting ys
     → UnitsLeft d us
 gives d us h ys r =
-    capture-loss startBytes frames d packetMemory collectingMemory packetMemory collectingMemory undamaged refl refl .damaged
+    capture-loss startBytes frames d leastPacket leastCollecting leastPacket leastCollecting undamaged refl refl .damaged
     ∙ rw start-config (leaves d us h ys r)
 
 pub examples : Examples
 examples =
     let b = broadcast-claims in
-    let s = b .4 packetMemory collectingMemory long .1 in
-    let f = b .5 packetMemory collectingMemory long .1 in
+    let s = b .4 leastPacket leastCollecting long .1 in
+    let f = b .5 leastPacket leastCollecting long .1 in
     record {
       says = start-config;
       begins = λ d. begins-same startBytes refl start-begins d frames (undamaged .written);

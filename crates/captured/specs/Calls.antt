@@ -106,8 +106,8 @@ framesBy stream l s n (k ∷ ks) =
     let on : ℕ = framesBy stream (layoutAfter stream l k) (slotAfter s k) (framesAfter n k) ks in
     cond (eqb (refusalAt stream l s k) 0) on n
 
--- the same where memories do not suffice: "22 packet memory under 21,433 bytes or collecting memory under n × R" refuses each slot that
--- is due, and next after X
+-- where memories do not suffice, "22 packet memory under 21,433 bytes or collecting memory under n × R" refuses each slot that is due,
+-- and next after X: the number with which a call, or next after it, is refused
 unfoldable pub shortAt : ℕ → ℕ → Call → ℕ
 shortAt stream s (frame b) = cond (eqb (length b) 1178) (cond (ltb s 120) 11 (decodeOf b stream .refusal)) 10
 shortAt stream s lost-frame = cond (ltb s 120) 11 22
@@ -119,3 +119,12 @@ unfoldable pub shortRefusalsBy : ℕ → ℕ → List Call → List ℕ
 shortRefusalsBy stream s [] = []
 shortRefusalsBy stream s (k ∷ ks) =
     cond (eqb (shortAt stream s k) 0) (shortRefusalsBy stream (slotAfter s k) ks) (shortAt stream s k ∷ [])
+
+-- and how many frames have begun then
+unfoldable pub shortFramesBy : ℕ → ℕ → ℕ → List Call → ℕ
+shortFramesBy stream s n [] = n
+shortFramesBy stream s n (frame b ∷ ks) = cond (eqb (shortAt stream s (frame b)) 0) (shortFramesBy stream 0 (suc n) ks) n
+shortFramesBy stream s n (lost-frame ∷ ks) = cond (ltb s 120) n (suc n)
+shortFramesBy stream s n (slot d ∷ ks) = n
+shortFramesBy stream s n (lost-slot ∷ ks) = n
+shortFramesBy stream s n (next ∷ ks) = n

@@ -19,7 +19,7 @@ use Rattle.broadcast.specs.Carried.{carriedUnits, intactUnits, Few, contents}
 use Rattle.broadcast.specs.Frames.{Frame, Whole, Damage, none}
 use Rattle.broadcast.specs.Demand3.{NoNote, unitsOf, slotsOf, kept}
 use Rattle.captured.specs.Events.{Placed, Meaning, meaningOf, meaningText, shownIn, noteCount, unitBytes, endRefusal}
-use Rattle.captured.specs.Calls.{commandCalls, arrivalsBy, refusalsBy, framesBy, shortRefusalsBy}
+use Rattle.captured.specs.Calls.{commandCalls, arrivalsBy, refusalsBy, framesBy, shortRefusalsBy, shortFramesBy}
 use Rattle.captured.specs.Places.{placedBy}
 use Rattle.captured.specs.Written.{CanWriteFrames, captureBytes}
 
@@ -85,6 +85,7 @@ CaptureAccounts = (p c b : List ℕ) → Begins b → Suffice (configIn b) p c �
 pub record NoneShown (p c b : List ℕ) : Type 0 where
   pub events : meaningOf p c b .events ≡ []
   pub refusal : endRefusal (meaningOf p c b .ending) ≡ shortRefusalsBy (configIn b .stream) 120 (commandCalls b)
+  pub frames : meaningOf p c b .tally .frames ≡ shortFramesBy (configIn b .stream) 120 0 (commandCalls b) % 2 ^ 64
 
 abbrev pub CaptureShort : Type 0
 CaptureShort = (p c b : List ℕ) → Begins b → shortBy (configIn b) (length p) (length c) ≡ true → NoneShown p c b

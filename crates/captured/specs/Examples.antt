@@ -26,21 +26,21 @@ abbrev pub noIds : List ℕ
 noIds = 67 ∷ replicate 41 0
 
 -- memories of the least lengths that suffice
-abbrev pub packetMemory : List ℕ
-packetMemory = replicate 21433 0
+abbrev pub leastPacket : List ℕ
+leastPacket = replicate 21433 0
 
-abbrev pub collectingMemory : List ℕ
-collectingMemory = replicate 200 0
+abbrev pub leastCollecting : List ℕ
+leastCollecting = replicate 200 0
 
 -- the units of the capture of the three frames with this damage
 abbrev pub UnitsLeft : Damage → List Content → Type 0
-UnitsLeft d us = unitsOf (shownIn (meaningOf packetMemory collectingMemory (captureBytes startBytes d frames) .events)) ≡ us
+UnitsLeft d us = unitsOf (shownIn (meaningOf leastPacket leastCollecting (captureBytes startBytes d frames) .events)) ≡ us
 
 pub record Examples : Type 0 where
   pub says : configIn startBytes ≡ config
   -- what CaptureAccounts assumes, whatever is lost
   pub begins : (d : Damage) → Begins (captureBytes startBytes d frames)
-  pub suffice : (d : Damage) → Suffice (configIn (captureBytes startBytes d frames)) packetMemory collectingMemory
+  pub suffice : (d : Damage) → Suffice (configIn (captureBytes startBytes d frames)) leastPacket leastCollecting
   -- what CaptureShort assumes: C alone, and no memories
   pub alone : Begins startBytes
   pub short : shortBy (configIn startBytes) 0 0 ≡ true
@@ -49,7 +49,7 @@ pub record Examples : Type 0 where
   pub long : 42 ≤ length noIds
   pub no-ids : startOf (configIn noIds) .refusal ≡ 1
   -- what CaptureLoss assumes
-  pub undamaged : UndamagedCapture startBytes frames packetMemory collectingMemory
+  pub undamaged : UndamagedCapture startBytes frames leastPacket leastCollecting
   -- and what is left then: with slot 5 of frame 0 lost, the unit whose packet it ended is gone; with frame 1 lost, both of its units
   pub slot-lost : UnitsLeft slotLost (whole 10 ∷ whole 11 ∷ joined ∷ whole 12 ∷ [])
   pub frame-lost : UnitsLeft frameLost (whole 9 ∷ joined ∷ whole 12 ∷ [])
