@@ -7,11 +7,13 @@ use native.Mathlib.Omega.{arith}
 use lib.Dec.{eqb, ltb, leb}
 use lib.ListN.{length, getD, drop}
 use borrow.Author.Tests.{eqb-true, eqb-false, ltb-false, leb-false}
+use Rattle.wire.specs.Choice.{either}
 use Rattle.tmcc.specs.declared.layout.Layout.{Layout}
 use Rattle.tmcc.specs.Block.{decodeOf}
 use Rattle.tlv.specs.Run.{Arrival, State as Slot-state, Stepped, lost, step, run, stateAfter}
 use Rattle.reassembly.specs.declared.config.Config.{Config}
 use Rattle.reassembly.specs.Run.{Line}
+use Rattle.receiver.specs.declared.answer.Called.{Called}
 use Rattle.receiver.specs.declared.state.State.{State}
 use Rattle.receiver.specs.declared.state.Frame.{Frame as ReceiverFrame}
 use Rattle.receiver.specs.Slot.{counted, wrongLength, refusalOf, slotOf, lostSlotOf, slotTaken, lossTaken}
@@ -53,39 +55,28 @@ pub call-queue : (w : Letter) (st : State) (p c b : List ℕ) → fits Reading w
 unfolding callOf frameOf lostFrameOf slotOf lostSlotOf counted lossOf
 call-queue Start st p c b h = let y : _≡_ {A = ℕ} 0 1 = cc in absurd (omega arith)
 call-queue Frame st p c b h =
-    go (eqb (length (drop 1 b)) 1178) (frameBusy st) (eqb (decodeOf (drop 1 b) (st .config .stream) .refusal) 0)
+    either Kept (eqb (length (drop 1 b)) 1178)
+    (either Kept (frameBusy st) refl (either Kept (eqb (decodeOf (drop 1 b) (st .config .stream) .refusal) 0) refl refl)) refl
   where
-    go : (x y z : Bool)
-        → cond x
-        (cond y (refusedWith 11 st)
-        (cond z (acceptedAs (withFrame st (record { layout = decodeOf (drop 1 b) (st .config .stream) .layout; at = 0 })))
-        (refusedWith (decodeOf (drop 1 b) (st .config .stream) .refusal) st))) (refusedWith 10 st) .state .queue ≡ st .queue
-    go true true z = refl
-    go true false true = refl
-    go true false false = refl
-    go false y z = refl
-call-queue LostFrame st p c b h = go (frameBusy st)
+    Kept : Called → Type 0
+    Kept r = r .state .queue ≡ st .queue
+call-queue LostFrame st p c b h = either (λ (r : Called). r .state .queue ≡ st .queue) (frameBusy st) refl refl
+call-queue Slot st p c b h =
+    either Kept (eqb (refusalOf st (length p) (length c)) 0)
+    (either Kept (wrongLength (dueLength st) (length (drop 3 b))) refl (go (dueOwn st))) refl
   where
-    go : (x : Bool) → cond x (refusedWith 11 st) (acceptedAs (lossOf st)) .state .queue ≡ st .queue
+    Kept : Called × List ℕ → Type 0
+    Kept r = r .0 .state .queue ≡ st .queue
+
+    go : (own : Bool) → Kept (slotTaken own st p (drop 3 b) (duePointers st))
     go true = refl
     go false = refl
-call-queue Slot st p c b h =
-    go (eqb (refusalOf st (length p) (length c)) 0) (wrongLength (dueLength st) (length (drop 3 b))) (dueOwn st)
+call-queue LostSlot st p c b h =
+    either (λ (r : Called). r .state .queue ≡ st .queue) (eqb (refusalOf st (length p) (length c)) 0) (go (dueOwn st)) refl
   where
-    go : (x y z : Bool)
-        → (cond x (cond y (refusedWith 23 st, p) (slotTaken z st p (drop 3 b) (duePointers st)))
-        (refusedWith (refusalOf st (length p) (length c)) st, p)) .0 .state .queue ≡ st .queue
-    go true true z = refl
-    go true false true = refl
-    go true false false = refl
-    go false y z = refl
-call-queue LostSlot st p c b h = go (eqb (refusalOf st (length p) (length c)) 0) (dueOwn st)
-  where
-    go : (x z : Bool)
-        → cond x (acceptedAs (lossTaken z st)) (refusedWith (refusalOf st (length p) (length c)) st) .state .queue ≡ st .queue
-    go true true = refl
-    go true false = refl
-    go false z = refl
+    go : (own : Bool) → lossTaken own st .queue ≡ st .queue
+    go true = refl
+    go false = refl
 call-queue Unknown st p c b h = let y : _≡_ {A = ℕ} 0 1 = cc in absurd (omega arith)
 
 -- the tally after an accepted command

@@ -6,19 +6,18 @@ use mathlib.Core.List.{List, [], _∷_, _++_}
 use native.Mathlib.Omega.{arith}
 use lib.ListN.{length, getD, take, drop}
 use lib.Dec.{eqb}
+use Rattle.wire.specs.Choice.{either}
 use Rattle.delivery.specs.declared.event.Event.{Event}
 use Rattle.delivery.specs.declared.event.Event.the-variants.{Nothing, Note, Unit, Refused}
 use Rattle.receiver.specs.declared.answer.Called.{Called}
 use Rattle.receiver.specs.declared.state.State.{State}
 use Rattle.receiver.specs.Next.{nextOf}
-use Rattle.lines.specs.Line.{refusedLine}
 use Rattle.capture.specs.declared.command.Letter.{Letter}
 use Rattle.capture.specs.declared.command.Letter.the-variants.{Start, Frame, LostFrame, Slot, LostSlot, Unknown}
-use Rattle.capture.specs.declared.session.Phase.the-variants.{Ended}
 use Rattle.capture.specs.declared.session.Session.{Session}
 use Rattle.capture.specs.declared.session.Tally.{Tally}
 use Rattle.capture.specs.Command.{letterOf, sizeOf}
-use Rattle.capture.specs.Session.{isEnded, busy, inPhase, withState, withTally, freshSession}
+use Rattle.capture.specs.Session.{isEnded, busy, withState, withTally, freshSession}
 use Rattle.capture.specs.Capture.{Done, Drained, fits, callOf, afterCall, doneOf, tallied, closed, eventBy, drainedBy, drainedOf, reads}
 use Rattle.capture.specs.Drains.{still}
 use Rattle.broadcast.specs.Drains.{Shown, note, unit}
@@ -77,8 +76,11 @@ keeps-adds t u k s =
       bytes = omega (arith, k .bytes, s .bytes);
     }
 
+kept : (t : Tally) → Keeps t t
+kept t = record { units = refl; notes = refl; bytes = refl }
+
 adds-none : (t : Tally) → Small t → Adds t t []
-adds-none t s = keeps-adds t t (record { units = refl; notes = refl; bytes = refl }) s
+adds-none t s = keeps-adds t t (kept t) s
 
 adds-kept : (t u v : Tally) (es : List Placed) → Keeps t u → Adds u v es → Adds t v es
 adds-kept t u v es k a =
@@ -165,7 +167,9 @@ after-keeps Unknown s = record { units = refl; notes = refl; bytes = refl }
 
 done-keeps : (s : Session) (p c b : List ℕ) → Keeps (s .tally) (doneOf s p c b .session .tally)
 unfolding doneOf
-done-keeps s p c b = go (fits (s .phase) l) (eqb (r .0 .refusal) 0)
+done-keeps s p c b =
+    either Kept (fits (s .phase) l) (either Kept (eqb (r .0 .refusal) 0) (after-keeps l (withState s (r .0 .state))) (kept (s .tally)))
+    (kept (s .tally))
   where
     l : Letter
     l = letterOf (getD b 0 0)
@@ -173,19 +177,8 @@ done-keeps s p c b = go (fits (s .phase) l) (eqb (r .0 .refusal) 0)
     r : Called × List ℕ
     r = callOf l (s .state) p c b
 
-    go : (x y : Bool)
-        → let k : Done =
-        cond x
-        (cond y (record { text = []; session = afterCall l (withState s (r .0 .state)); packet = r .1 })
-        (record {
-          text = refusedLine (r .0 .refusal);
-          session = inPhase (withState s (r .0 .state)) Ended;
-          packet = r .1;
-        })) (record { text = []; session = inPhase s Ended; packet = p }) in
-        Keeps (s .tally) (k .session .tally)
-    go true true = after-keeps l (withState s (r .0 .state))
-    go true false = record { units = refl; notes = refl; bytes = refl }
-    go false y = record { units = refl; notes = refl; bytes = refl }
+    Kept : Done → Type 0
+    Kept k = Keeps (s .tally) (k .session .tally)
 
 -- a command, and all behind it
 abbrev Again : ℕ → Type 0

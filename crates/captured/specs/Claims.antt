@@ -7,7 +7,7 @@ use lib.ListN.{length, getD, take}
 use Rattle.tmcc.specs.Layout.{blankLayout}
 use Rattle.tlv.specs.Run.{Arrival, searching}
 use Rattle.reassembly.specs.declared.config.Config.{Config}
-use Rattle.reassembly.specs.Run.{fresh}
+use Rattle.reassembly.specs.Run.{Content, Labelled, fresh}
 use Rattle.receiver.specs.Start.{startOf}
 use Rattle.receiver.specs.Slot.{shortBy}
 use Rattle.capture.specs.declared.command.Letter.the-variants.{Start}
@@ -107,6 +107,13 @@ CaptureRefusedC =
 
 -- 3. Loss. Two captures of the same frames behind the same C, one undamaged, the other with any S replaced by L and any frame by X.
 
+-- the units that a capture gives, in order; and those that the own live slots of the frames carry, each with its TLV packets
+abbrev pub unitsGiven : List ℕ → List ℕ → List ℕ → List Content
+unitsGiven p c b = unitsOf (shownIn (meaningOf p c b .events))
+
+abbrev pub carriedIn : List ℕ → List Frame → List (Labelled (List (ℕ × ℕ)))
+carriedIn start fs = carriedUnits (configIn start) (slotsOf (configIn start) fs)
+
 -- what is assumed of the undamaged one, as demand 3 has it: `start` is an accepted C; the frames have 120 slots and can be written;
 -- no command is refused, there is no note, and no watched packet_id has more than 4,294,967,295 packets
 pub record UndamagedCapture (start : List ℕ) (fs : List Frame) (p c : List ℕ) : Type 0 where
@@ -118,13 +125,11 @@ pub record UndamagedCapture (start : List ℕ) (fs : List Frame) (p c : List ℕ
   pub no-note : NoNote (shownIn (meaningOf p c (captureBytes start none fs) .events))
   pub few : Few (configIn start) (slotsOf (configIn start) fs)
 
--- the units of the undamaged one are those that the own live slots carry; the damaged one has them, in order and content, less exactly
--- those with a byte, headers included, of a TLV packet that carries them in a lost slot; and it is not refused
+-- the units of the undamaged one are those that its slots carry; the damaged one gives them, in order and content, less exactly those
+-- with a byte of a TLV packet that carries them, headers included, in a lost slot; and it is not refused
 pub record ExactLoss (start : List ℕ) (fs : List Frame) (d : Damage) (p₁ c₁ p₂ c₂ : List ℕ) : Type 0 where
-  pub undamaged : unitsOf (shownIn (meaningOf p₁ c₁ (captureBytes start none fs) .events))
-      ≡ contents (carriedUnits (configIn start) (slotsOf (configIn start) fs))
-  pub damaged : unitsOf (shownIn (meaningOf p₂ c₂ (captureBytes start d fs) .events))
-      ≡ contents (intactUnits (kept d) (carriedUnits (configIn start) (slotsOf (configIn start) fs)))
+  pub undamaged : unitsGiven p₁ c₁ (captureBytes start none fs) ≡ contents (carriedIn start fs)
+  pub damaged : unitsGiven p₂ c₂ (captureBytes start d fs) ≡ contents (intactUnits (kept d) (carriedIn start fs))
   pub none-refused : endRefusal (meaningOf p₂ c₂ (captureBytes start d fs) .ending) ≡ []
 
 abbrev pub CaptureLoss : Type 0

@@ -11,11 +11,9 @@ use Rattle.capture.specs.declared.command.Letter.the-variants.{Start}
 use Rattle.capture.specs.Command.{letterOf}
 use Rattle.broadcast.specs.Example.{joined}
 use Rattle.broadcast.specs.Frames.{Damage}
-use Rattle.broadcast.specs.Demand3.{unitsOf}
 use Rattle.broadcast.specs.Broadcast.{config, frames, whole, slotLost, frameLost}
-use Rattle.captured.specs.Events.{meaningOf, shownIn}
 use Rattle.captured.specs.Written.{captureBytes}
-use Rattle.captured.specs.Claims.{configIn, Begins, Suffice, UndamagedCapture}
+use Rattle.captured.specs.Claims.{configIn, Begins, Suffice, unitsGiven, UndamagedCapture}
 
 -- C: stream 0x0102, CID 2, packet_ids 17 and 18, R = 100
 abbrev pub startBytes : List ℕ
@@ -34,7 +32,7 @@ leastCollecting = replicate 200 0
 
 -- the units of the capture of the three frames with this damage
 abbrev pub UnitsLeft : Damage → List Content → Type 0
-UnitsLeft d us = unitsOf (shownIn (meaningOf leastPacket leastCollecting (captureBytes startBytes d frames) .events)) ≡ us
+UnitsLeft d us = unitsGiven leastPacket leastCollecting (captureBytes startBytes d frames) ≡ us
 
 pub record Examples : Type 0 where
   pub says : configIn startBytes ≡ config
