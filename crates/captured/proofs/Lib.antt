@@ -1,0 +1,12 @@
+-- The proofs.
+pub mod Texts
+pub mod Totals
+pub mod Drains
+pub mod Steps
+pub mod Accounts
+pub mod Short
+pub mod Unstarted
+pub mod Written
+pub mod FramesRead
+pub mod Losses
+pub mod Meets

@@ -1,0 +1,120 @@
+-- What is assumed of an undamaged capture is met wherever what demand 3 assumes is, and by the broadcast of three frames.
+use Prim.Native.Nat.{ℕ, suc}
+use mathlib.Core.Path.{_≡_, refl, sym, ap, _∙_, subst}
+use mathlib.Core.List.{List, [], _∷_, map}
+use native.Mathlib.Omega.{arith}
+use lib.ListN.{length}
+use Rattle.wire.specs.Field.{be}
+use Rattle.tmcc.specs.Count.{tab}
+use Rattle.tmcc.specs.declared.layout.Layout.{Layout}
+use Rattle.tmcc.specs.Layout.{blankLayout}
+use Rattle.tmcc.proofs.Laws.{accepted as tmcc-accepted}
+use Rattle.tlv.specs.Run.{Arrival, searching}
+use Rattle.reassembly.specs.declared.config.Config.{Config}
+use Rattle.reassembly.specs.Run.{Content, fresh}
+use Rattle.receiver.specs.Start.{before, twiceBelow, twice, freshState, refusalOf as startRefusal, startOf}
+use Rattle.mmtp.specs.Watch.{lookupOf, firstFrom}
+use Rattle.capture.specs.Command.{letterOf, idsOf, configOf}
+use Rattle.broadcast.specs.Account.{account}
+use Rattle.broadcast.specs.Drains.{strip}
+use Rattle.broadcast.specs.Calls.{Made}
+use Rattle.broadcast.specs.Carried.{carriedUnits, intactUnits, contents}
+use Rattle.broadcast.specs.Frames.{Frame, Damage, none}
+use Rattle.broadcast.specs.Demand3.{NoNote, Reads, slotsOf, kept}
+use Rattle.broadcast.specs.Broadcast.{config, frames, Assumed, Memories, Left, slotLost, frameLost}
+use Rattle.receiver.specs.Slot.{packet-short, right-length}
+use Rattle.broadcast.proofs.SlotCalls.{SlotsFit}
+use Rattle.broadcast.proofs.Reading.{FramesFit, frames-fit}
+use Rattle.broadcast.proofs.Demand3.{start-at, shows-account, demand-3}
+use Rattle.broadcast.proofs.Broadcast.{broadcast-claims}
+use Rattle.captured.specs.Written.{CanWriteSlots, CanWriteFrames}
+use Rattle.captured.specs.Examples.{startBytes, leastPacket, leastCollecting, UnitsLeft, Examples}
+use Rattle.captured.specs.Claims.{configIn, Begins, Suffice, UndamagedCapture}
+use Rattle.captured.proofs.FramesRead.{config-same, begins-same, accounts-same, frames-carry}
+use Rattle.captured.proofs.Losses.{capture-loss}
+
+slots-sized : (l : Layout) (s : ℕ) (ds : List (List ℕ)) → SlotsFit l s ds → CanWriteSlots ds
+slots-sized l s [] w = tt
+slots-sized l s (d ∷ ds) w = (omega (arith, right-length _ _ (w .0) .0), slots-sized l (suc s) ds (w .1))
+
+frames-sized : (stream : ℕ) (fs : List Frame) → FramesFit stream fs → CanWriteFrames fs
+frames-sized stream [] w = tt
+frames-sized stream (f ∷ fs) w =
+    (tmcc-accepted (f .block) stream (w .0) .size, slots-sized _ 0 (f .slots) (w .2), frames-sized stream fs (w .3))
+
+pub undamaged-met : (start : List ℕ) (fs : List Frame) (p c : List ℕ) (xs : List Made) → length start ≡ 42 → Begins start
+    → Suffice (configIn start) p c → Assumed (configIn start) fs p c xs → UndamagedCapture start fs p c
+undamaged-met start fs p c xs size s h a =
+    let cfg = configIn start in
+    let at = start-at cfg p c (s .accepted) (h .packet) (h .collecting) in
+    let w = frames-fit cfg 0 fs blankLayout _ searching (λ k. fresh) xs at (a .whole-frames) (a .reads) (a .none-refused) in
+    let z = frames-sized (cfg .stream) fs w in
+    let k = frames-carry (cfg .stream) none 0 fs blankLayout w in
+    let e = accounts-same start size s none fs z p c h in
+    let r = shows-account cfg (s .accepted) fs w none p c at xs (a .reads) in
+    let q = e .0 ∙ ap (λ (y : List (Arrival (ℕ × ℕ))). map strip (account cfg y)) (k .0) ∙ sym (r .0) in
+    record {
+      size = size;
+      begins = s;
+      whole = a .whole-frames;
+      written = z;
+      none-refused = e .1 ∙ k .1;
+      no-note = subst NoNote (sym q) (a .no-note);
+      few = a .few;
+    }
+
+start-config : configIn startBytes ≡ config
+unfolding configOf idsOf be tab config
+start-config = refl
+
+start-begins : Begins startBytes
+unfolding letterOf startOf startRefusal before twiceBelow twice freshState configOf idsOf be tab lookupOf firstFrom
+start-begins = record { first = refl; long = omega arith; accepted = refl }
+
+long : Memories leastPacket leastCollecting
+long = broadcast-claims .2
+
+undamaged : UndamagedCapture startBytes frames leastPacket leastCollecting
+undamaged =
+    let m = broadcast-claims .1 leastPacket leastCollecting long in
+    undamaged-met startBytes frames leastPacket leastCollecting (m .0) refl start-begins
+    (rw start-config (record { packet = omega (arith, long .0); collecting = unfold config in omega (arith, long .1) }))
+    (subst (λ (cfg : Config). Assumed cfg frames leastPacket leastCollecting (m .0)) (sym start-config) (m .1))
+
+-- what demand 3 leaves of the broadcast, by any reading of it
+leaves : (d : Damage) (us : List Content) → Left d us → (ys : List Made) → Reads config frames d leastPacket leastCollecting ys
+    → contents (intactUnits (kept d) (carriedUnits config (slotsOf config frames))) ≡ us
+leaves d us h ys r =
+    let m = broadcast-claims .1 leastPacket leastCollecting long in
+    let a = m .1 in
+    let c =
+    demand-3 config (a .accepted) frames (a .whole-frames) d leastPacket leastCollecting leastPacket leastCollecting refl refl
+    (m .0) (a .reads)
+    (a .none-refused) (a .no-note) (a .few) in
+    sym (c .damaged ys r .units-left) ∙ h leastPacket leastCollecting long ys r
+
+gives : (d : Damage) (us : List Content) → Left d us → (ys : List Made) → Reads config frames d leastPacket leastCollecting ys
+    → UnitsLeft d us
+gives d us h ys r =
+    capture-loss startBytes frames d leastPacket leastCollecting leastPacket leastCollecting undamaged refl refl .damaged
+    ∙ rw start-config (leaves d us h ys r)
+
+pub examples : Examples
+examples =
+    let b = broadcast-claims in
+    let s = b .4 leastPacket leastCollecting long .1 in
+    let f = b .5 leastPacket leastCollecting long .1 in
+    record {
+      says = start-config;
+      begins = λ d. begins-same startBytes refl start-begins d frames (undamaged .written);
+      suffice = λ d. rw (config-same startBytes refl start-begins d frames (undamaged .written), start-config)
+          (record { packet = omega (arith, long .0); collecting = unfold config in omega (arith, long .1) });
+      alone = start-begins;
+      short = rw start-config (packet-short config 0 0 (omega arith));
+      first = unfold letterOf in refl;
+      long = omega arith;
+      no-ids = unfold startOf in unfold startRefusal in unfold configOf in unfold idsOf in unfold be in unfold tab in refl;
+      undamaged = undamaged;
+      slot-lost = gives slotLost _ (b .6) (s .0) (s .1);
+      frame-lost = gives frameLost _ (b .7) (f .0) (f .1);
+    }

@@ -1,0 +1,138 @@
+-- What is claimed of captures: what the text says, that it is the account of what arrived, and what a fade takes from it.
+use Prim.Native.Nat.{ℕ, _*_, _%_, _^_, _<_, _≤_}
+use mathlib.Core.Path.{_≡_}
+use mathlib.Core.Bool.{true}
+use mathlib.Core.List.{List, [], _∷_, map}
+use lib.ListN.{length, getD, take}
+use Rattle.tmcc.specs.Layout.{blankLayout}
+use Rattle.tlv.specs.Run.{Arrival, searching}
+use Rattle.reassembly.specs.declared.config.Config.{Config}
+use Rattle.reassembly.specs.Run.{Content, Labelled, fresh}
+use Rattle.receiver.specs.Start.{startOf}
+use Rattle.receiver.specs.Slot.{shortBy}
+use Rattle.capture.specs.declared.command.Letter.the-variants.{Start}
+use Rattle.capture.specs.Command.{letterOf, configOf}
+use Rattle.capture.specs.Capture.{captureOf}
+use Rattle.broadcast.specs.Account.{account}
+use Rattle.broadcast.specs.Drains.{strip}
+use Rattle.broadcast.specs.Carried.{carriedUnits, intactUnits, Few, contents}
+use Rattle.broadcast.specs.Frames.{Frame, Whole, Damage, none}
+use Rattle.broadcast.specs.Demand3.{NoNote, unitsOf, slotsOf, kept}
+use Rattle.captured.specs.Events.{Placed, Meaning, meaningOf, meaningText, shownIn, noteCount, unitBytes, endRefusal}
+use Rattle.captured.specs.Calls.{commandCalls, arrivalsBy, refusalsBy, framesBy, shortRefusalsBy, shortFramesBy}
+use Rattle.captured.specs.Places.{placedBy}
+use Rattle.captured.specs.Written.{CanWriteFrames, captureBytes}
+
+-- 1. The text. Any bytes b, and memories of any length with anything in them.
+
+-- what the capture program prints is the text of the capture's meaning
+abbrev pub TextClaim : Type 0
+TextClaim = (p c b : List ℕ) → captureOf p c b ≡ meaningText (meaningOf p c b)
+
+-- its totals are those of its events: how many units and notes, and how many bytes of units, in 64 bits
+pub record Counted (m : Meaning) : Type 0 where
+  pub units : m .tally .units ≡ length (unitsOf (shownIn (m .events))) % 2 ^ 64
+  pub notes : m .tally .notes ≡ noteCount (shownIn (m .events)) % 2 ^ 64
+  pub bytes : m .tally .bytes ≡ unitBytes (m .events) % 2 ^ 64
+
+abbrev pub TotalsClaim : Type 0
+TotalsClaim = (p c b : List ℕ) → Counted (meaningOf p c b)
+
+-- 2. The account. Any bytes b behind an accepted C.
+
+-- what C says
+abbrev pub configIn : List ℕ → Config
+configIn b = configOf (take 42 b)
+
+-- a whole C comes first, and start accepts it
+pub record Begins (b : List ℕ) : Type 0 where
+  pub first : letterOf (getD b 0 0) ≡ Start
+  pub long : 42 ≤ length b
+  pub accepted : startOf (configIn b) .refusal ≡ 0
+
+-- packet memory of 21,433 bytes at least, and collecting memory of n × R
+pub record Suffice (cfg : Config) (p c : List ℕ) : Type 0 where
+  pub packet : 21433 ≤ length p
+  pub collecting : cfg .watch .n * cfg .limit ≤ length c
+
+-- by the commands behind C, up to the first that is refused: the own live slots that arrive; the number of that refusal, if there
+-- is one; how many frames have begun; and the account of what arrives, each note and unit with its frame and slot
+abbrev pub arrivalsIn : List ℕ → List (Arrival (ℕ × ℕ))
+arrivalsIn b = arrivalsBy (configIn b .stream) blankLayout 120 0 (commandCalls b)
+
+abbrev pub refusalsIn : List ℕ → List ℕ
+refusalsIn b = refusalsBy (configIn b .stream) blankLayout 120 (commandCalls b)
+
+abbrev pub framesIn : List ℕ → ℕ
+framesIn b = framesBy (configIn b .stream) blankLayout 120 0 (commandCalls b)
+
+abbrev pub placedIn : List ℕ → List Placed
+placedIn b = placedBy (configIn b) (λ k. fresh) searching blankLayout 120 0 (commandCalls b)
+
+-- the capture's notes and units are, in order and with all that they carry, the account of what arrives by its commands; each has
+-- the frame and slot of its command, and a unit's line the length of its bytes; the capture is refused where the commands say, and
+-- its frames are those that have begun
+pub record Accounts (p c b : List ℕ) : Type 0 where
+  pub accounted : shownIn (meaningOf p c b .events) ≡ map strip (account (configIn b) (arrivalsIn b))
+  pub placed : meaningOf p c b .events ≡ placedIn b
+  pub refusal : endRefusal (meaningOf p c b .ending) ≡ refusalsIn b
+  pub frames : meaningOf p c b .tally .frames ≡ framesIn b % 2 ^ 64
+
+abbrev pub CaptureAccounts : Type 0
+CaptureAccounts = (p c b : List ℕ) → Begins b → Suffice (configIn b) p c → Accounts p c b
+
+-- with memories that do not suffice there is neither a note nor a unit, and what needs them is refused with 22
+pub record NoneShown (p c b : List ℕ) : Type 0 where
+  pub events : meaningOf p c b .events ≡ []
+  pub refusal : endRefusal (meaningOf p c b .ending) ≡ shortRefusalsBy (configIn b .stream) 120 (commandCalls b)
+  pub frames : meaningOf p c b .tally .frames ≡ shortFramesBy (configIn b .stream) 120 0 (commandCalls b) % 2 ^ 64
+
+abbrev pub CaptureShort : Type 0
+CaptureShort = (p c b : List ℕ) → Begins b → shortBy (configIn b) (length p) (length c) ≡ true → NoneShown p c b
+
+-- without an accepted C first there is neither a note, nor a unit, nor a frame; rs: the refusal that ends it, if one does
+pub record Unstarted (m : Meaning) (rs : List ℕ) : Type 0 where
+  pub events : m .events ≡ []
+  pub refusal : endRefusal (m .ending) ≡ rs
+  pub frames : m .tally .frames ≡ 0
+
+-- no whole C comes first; or one that start refuses
+abbrev pub CaptureWithoutC : Type 0
+CaptureWithoutC = (p c b : List ℕ) → (letterOf (getD b 0 0) ≡ Start → length b < 42) → Unstarted (meaningOf p c b) []
+
+abbrev pub CaptureRefusedC : Type 0
+CaptureRefusedC =
+    (p c b : List ℕ) → letterOf (getD b 0 0) ≡ Start → 42 ≤ length b → (startOf (configIn b) .refusal ≡ 0 → ⊥)
+    → Unstarted (meaningOf p c b) (startOf (configIn b) .refusal ∷ [])
+
+-- 3. Loss. Two captures of the same frames behind the same C, one undamaged, the other with any S replaced by L and any frame by X.
+
+-- the units that a capture gives, in order; and those that the own live slots of the frames carry, each with its TLV packets
+abbrev pub unitsGiven : List ℕ → List ℕ → List ℕ → List Content
+unitsGiven p c b = unitsOf (shownIn (meaningOf p c b .events))
+
+abbrev pub carriedIn : List ℕ → List Frame → List (Labelled (List (ℕ × ℕ)))
+carriedIn start fs = carriedUnits (configIn start) (slotsOf (configIn start) fs)
+
+-- what is assumed of the undamaged one, as demand 3 has it: `start` is an accepted C; the frames have 120 slots and can be written;
+-- no command is refused, there is no note, and no watched packet_id has more than 4,294,967,295 packets
+pub record UndamagedCapture (start : List ℕ) (fs : List Frame) (p c : List ℕ) : Type 0 where
+  pub size : length start ≡ 42
+  pub begins : Begins start
+  pub whole : Whole fs
+  pub written : CanWriteFrames fs
+  pub none-refused : endRefusal (meaningOf p c (captureBytes start none fs) .ending) ≡ []
+  pub no-note : NoNote (shownIn (meaningOf p c (captureBytes start none fs) .events))
+  pub few : Few (configIn start) (slotsOf (configIn start) fs)
+
+-- the units of the undamaged one are those that its slots carry; the damaged one gives them, in order and content, less exactly those
+-- with a byte of a TLV packet that carries them, headers included, in a lost slot; and it is not refused
+pub record ExactLoss (start : List ℕ) (fs : List Frame) (d : Damage) (p₁ c₁ p₂ c₂ : List ℕ) : Type 0 where
+  pub undamaged : unitsGiven p₁ c₁ (captureBytes start none fs) ≡ contents (carriedIn start fs)
+  pub damaged : unitsGiven p₂ c₂ (captureBytes start d fs) ≡ contents (intactUnits (kept d) (carriedIn start fs))
+  pub none-refused : endRefusal (meaningOf p₂ c₂ (captureBytes start d fs) .ending) ≡ []
+
+abbrev pub CaptureLoss : Type 0
+CaptureLoss =
+    (start : List ℕ) (fs : List Frame) (d : Damage) (p₁ c₁ p₂ c₂ : List ℕ) → UndamagedCapture start fs p₁ c₁
+    → length p₁ ≡ length p₂ → length c₁ ≡ length c₂ → ExactLoss start fs d p₁ c₁ p₂ c₂

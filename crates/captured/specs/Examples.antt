@@ -1,0 +1,53 @@
+-- Captures that meet what the claims assume: the broadcast of three frames, written behind its C; and a C that start refuses.
+use Prim.Native.Nat.{ℕ, _≤_}
+use mathlib.Core.Path.{_≡_}
+use mathlib.Core.Bool.{true}
+use mathlib.Core.List.{List, [], _∷_, _++_}
+use lib.ListN.{length, getD, replicate}
+use Rattle.reassembly.specs.Run.{Content}
+use Rattle.receiver.specs.Start.{startOf}
+use Rattle.receiver.specs.Slot.{shortBy}
+use Rattle.capture.specs.declared.command.Letter.the-variants.{Start}
+use Rattle.capture.specs.Command.{letterOf}
+use Rattle.broadcast.specs.Example.{joined}
+use Rattle.broadcast.specs.Frames.{Damage}
+use Rattle.broadcast.specs.Broadcast.{config, frames, whole, slotLost, frameLost}
+use Rattle.captured.specs.Written.{captureBytes}
+use Rattle.captured.specs.Claims.{configIn, Begins, Suffice, unitsGiven, UndamagedCapture}
+
+-- C: stream 0x0102, CID 2, packet_ids 17 and 18, R = 100
+abbrev pub startBytes : List ℕ
+startBytes = 67 ∷ 1 ∷ 2 ∷ 0 ∷ 2 ∷ 2 ∷ 0 ∷ 17 ∷ 0 ∷ 18 ∷ (replicate 28 0 ++ (0 ∷ 0 ∷ 0 ∷ 100 ∷ []))
+
+-- C with n = 0
+abbrev pub noIds : List ℕ
+noIds = 67 ∷ replicate 41 0
+
+-- memories of the least lengths that suffice
+abbrev pub leastPacket : List ℕ
+leastPacket = replicate 21433 0
+
+abbrev pub leastCollecting : List ℕ
+leastCollecting = replicate 200 0
+
+-- the units of the capture of the three frames with this damage
+abbrev pub UnitsLeft : Damage → List Content → Type 0
+UnitsLeft d us = unitsGiven leastPacket leastCollecting (captureBytes startBytes d frames) ≡ us
+
+pub record Examples : Type 0 where
+  pub says : configIn startBytes ≡ config
+  -- what CaptureAccounts assumes, whatever is lost
+  pub begins : (d : Damage) → Begins (captureBytes startBytes d frames)
+  pub suffice : (d : Damage) → Suffice (configIn (captureBytes startBytes d frames)) leastPacket leastCollecting
+  -- what CaptureShort assumes: C alone, and no memories
+  pub alone : Begins startBytes
+  pub short : shortBy (configIn startBytes) 0 0 ≡ true
+  -- what CaptureRefusedC assumes
+  pub first : letterOf (getD noIds 0 0) ≡ Start
+  pub long : 42 ≤ length noIds
+  pub no-ids : startOf (configIn noIds) .refusal ≡ 1
+  -- what CaptureLoss assumes
+  pub undamaged : UndamagedCapture startBytes frames leastPacket leastCollecting
+  -- and what is left then: with slot 5 of frame 0 lost, the unit whose packet it ended is gone; with frame 1 lost, both of its units
+  pub slot-lost : UnitsLeft slotLost (whole 10 ∷ whole 11 ∷ joined ∷ whole 12 ∷ [])
+  pub frame-lost : UnitsLeft frameLost (whole 9 ∷ joined ∷ whole 12 ∷ [])
