@@ -14,14 +14,14 @@ use Rattle.capture.specs.Steps.{roomy, finish-full, finish-line}
 use Rattle.capture.specs.Feed.{Left}
 use Rattle.capture.specs.Plays.{fed, first, AtOnce}
 use Rattle.capture.proofs.Whole.{whole-claim}
-use Rattle.linked.specs.Text.{textCall, Begins, finishedBy}
+use Rattle.linked.specs.Text.{textCall, TextBegins, finishedBy}
 use Rattle.linked.specs.Claims.{TextCallClaim}
 
 module _ (lines out : List ℕ) (f : Left) (a : AtOnce lines out f) where
   abbrev last : List ℕ
   last = lastLine (f .0 .session .tally)
 
-  begins : Begins lines out (finishedBy f .0) (finishedBy f .3)
+  begins : TextBegins lines out (finishedBy f .0) (finishedBy f .3)
   begins = go (roomy (length (f .4)) (f .0 .written)) refl
     where
       e : f .0 .written ≡ 0 + length (a .text)
@@ -30,7 +30,7 @@ module _ (lines out : List ℕ) (f : Left) (a : AtOnce lines out f) where
       l : length (f .4) ≡ length out
       l = written-length out (f .4) 0 (f .0 .written) (a .text) (a .written) (omega (arith, a .within))
 
-      go : (t : Bool) → roomy (length (f .4)) (f .0 .written) ≡ t → Begins lines out (finishedBy f .0) (finishedBy f .3)
+      go : (t : Bool) → roomy (length (f .4)) (f .0 .written) ≡ t → TextBegins lines out (finishedBy f .0) (finishedBy f .3)
       go true r =
           let room = leb-true (f .0 .written + 152) (length (f .4)) r in
           let m = end-67 (f .0 .session .tally .frames) (f .0 .session .tally .units) (f .0 .session .tally .notes) in

@@ -18,7 +18,7 @@ use Rattle.cutter.specs.declared.slot.CutSlot.the-variants.{Cut}
 use Rattle.cutter.specs.Slot.{slotOf}
 use Rattle.linked.specs.Answers.{packCall, cutCall}
 use Rattle.linked.specs.Calls.{callComes, stepOf}
-use Rattle.linked.specs.Text.{textCall, Begins}
+use Rattle.linked.specs.Text.{textCall, TextBegins}
 
 -- the line that a call writes, if it writes one
 unfoldable pub lineOf : Session → List ℕ → List ℕ → List ℕ → List ℕ
@@ -65,4 +65,4 @@ CutCallTaken = (run : List ℕ) (l s : ℕ) (output : List ℕ) (top last : ℕ)
 
 -- the text of a capture in memory: what `tlv_capture` prints, as far as it has room
 abbrev pub TextCallClaim : Type 0
-TextCallClaim = (b p c out : List ℕ) → let r = textCall b p c out in Begins (captureOf p c b) out (r .0) (r .3)
+TextCallClaim = (b p c out : List ℕ) → let r = textCall b p c out in TextBegins (captureOf p c b) out (r .0) (r .3)

@@ -21,7 +21,7 @@ unfoldable pub textCall : List ℕ → List ℕ → List ℕ → List ℕ → Wr
 textCall b p c out = finishedBy (fedOf freshSession 0 (replicate 65538 0) b p c out)
 
 -- `written` are the first bytes of `text`, from byte 0 of `out` on; `out` is otherwise as it was
-pub record Begins (text out : List ℕ) (r : ℕ) (o : List ℕ) : Type 0 where
+pub record TextBegins (text out : List ℕ) (r : ℕ) (o : List ℕ) : Type 0 where
   pub written : List ℕ
   pub rest : List ℕ
   pub whole : text ≡ written ++ rest
