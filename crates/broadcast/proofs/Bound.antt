@@ -31,7 +31,7 @@ use Rattle.tlv.specs.Run.{
   arrived,
 }
 use Rattle.reassembly.specs.declared.config.Config.{Config}
-use Rattle.reassembly.specs.Run.{Line}
+use Rattle.reassembly.specs.Run.{Lane}
 use Rattle.broadcast.specs.Account.{afterEvent, events}
 use Rattle.broadcast.specs.SlotClaims.{Short}
 use Rattle.broadcast.specs.Bound.{SlotBound}
@@ -51,17 +51,17 @@ module _ {A : Type 0} where
   weights-append [] ys = omega arith
   weights-append (x ∷ xs) ys = omega (arith, weights-append xs ys)
 
-  event-few : (cfg : Config) (f : ℕ → Line (List A)) (e : Slot-event A) → length (afterEvent cfg e f .events) ≤ weight e
+  event-few : (cfg : Config) (f : ℕ → Lane (List A)) (e : Slot-event A) → length (afterEvent cfg e f .events) ≤ weight e
   event-few cfg f (note n) = omega arith
   event-few cfg f (packet p) = few-events (List A) cfg (p .bytes) f (p .labels)
 
-  events-few : (cfg : Config) (f : ℕ → Line (List A)) (es : List (Slot-event A)) → length (events cfg f es) ≤ weights es
+  events-few : (cfg : Config) (f : ℕ → Lane (List A)) (es : List (Slot-event A)) → length (events cfg f es) ≤ weights es
   unfolding events
   events-few cfg f [] = omega arith
   events-few cfg f (e ∷ es) =
       let r = afterEvent cfg e f in
       let i = event-few cfg f e in
-      let j = events-few cfg (r .lines) es in
+      let j = events-few cfg (r .lanes) es in
       rw length-append (omega arith)
 
   -- a packet of a cut has four bytes at least, so its events are at most two for each byte
@@ -131,5 +131,5 @@ slot-bound A cfg f tl h = (
 )
 
 -- another stream's slot, or a dummy, gives nothing
-pub no-events : {A : Type 0} (cfg : Config) (f : ℕ → Line (List A)) → length (events cfg f []) ≤ 42868
+pub no-events : {A : Type 0} (cfg : Config) (f : ℕ → Lane (List A)) → length (events cfg f []) ≤ 42868
 no-events cfg f = omega (arith, events-few cfg f [])

@@ -66,7 +66,7 @@ use Rattle.reassembly.specs.Channel.{nextPsn, heard, gap, unheard}
 use Rattle.reassembly.specs.Join.{interrupted, begun, counterFollows, grown, extended, followed, acted, joinOf, notesOf}
 use Rattle.reassembly.specs.Run.{Content, Input, step, fresh, count}
 use Rattle.reassembly.specs.Sent.{openUnit, sentAfter, sent}
-use Rattle.receiver.specs.Start.{refusalOf, startOf, twiceBelow, twice, before}
+use Rattle.receiver.specs.Start.{startRefusal, startOf, twiceBelow, twice, before}
 use Rattle.receiver.specs.Slot.{wrongLength}
 use Rattle.broadcast.specs.Account.{readOf, events, account}
 use Rattle.broadcast.specs.Carried.{inputs, rowInputs, carriedUnits, intactUnits, contents, Few}
@@ -108,7 +108,7 @@ use Rattle.broadcast.proofs.Arrivals.{damage-account}
 use Rattle.broadcast.proofs.Demand3.{start-at, shows-account, made, demand-3}
 
 config-accepted : startOf config .refusal ≡ 0
-unfolding config startOf refusalOf twice twiceBelow lookupOf firstFrom before
+unfolding config startOf startRefusal twice twiceBelow lookupOf firstFrom before
 config-accepted = refl
 
 block-layout : decodeOf block 0x0102 ≡ record { refusal = 0; layout = layout }

@@ -20,11 +20,11 @@ use Rattle.receiver.specs.declared.state.State.{State}
 use Rattle.tmcc.specs.Block.{decodeOf}
 use Rattle.receiver.specs.State.{accepted as acceptedAs, refused as refusedWith, withFrame}
 use Rattle.receiver.specs.Frame.{frameBusy, frameOf}
-use Rattle.receiver.specs.Slot.{refusalOf as slotRefusal, wrongLength, slotOf, slotTaken, dueLength, dueOwn, duePointers, ready}
-use Rattle.receiver.specs.Start.{refusalOf as startRefusal, startOf, freshState, blankConfig, starts}
+use Rattle.receiver.specs.Slot.{slotRefusal, wrongLength, slotOf, slotTaken, dueLength, dueOwn, duePointers, ready}
+use Rattle.receiver.specs.Start.{startRefusal, startOf, freshState, blankConfig, starts}
 use Rattle.broadcast.specs.Account.{account}
 use Rattle.broadcast.specs.Carried.{inputs, rowInputs, carriedUnits, intactUnits, contents, Few}
-use Rattle.broadcast.specs.Drains.{strip, LineIs}
+use Rattle.broadcast.specs.Drains.{strip, LaneIs}
 use Rattle.broadcast.specs.Calls.{Machine, Made, Todo, call, drain, frame, slot, did, Follows, refusals, refusalIn}
 use Rattle.broadcast.specs.Frames.{Frame, Damage, none, reading, slotsTodo, ownSlots, arrivals}
 use Rattle.broadcast.specs.Demand3.{
@@ -81,10 +81,10 @@ start-accepted cfg e = go (eqb (startRefusal cfg) 0) refl e
     go true q h = (eqb-true _ 0 q, refl)
     go false q h = absurd (eqb-false _ 0 q h)
 
-fresh-line : (limit : ℕ) (c : List ℕ) (k : ℕ) → k < 16 → LineIs {A = List (ℕ × ℕ)} (getD (replicate 16 unheard) k unheard) k limit c fresh
+fresh-lane : (limit : ℕ) (c : List ℕ) (k : ℕ) → k < 16 → LaneIs {A = List (ℕ × ℕ)} (getD (replicate 16 unheard) k unheard) k limit c fresh
 unfolding unheard
-fresh-line limit c k h =
-    subst (λ (ch : Channel). LineIs {A = List (ℕ × ℕ)} ch k limit c fresh) (sym (getD-replicate 16 k unheard unheard h)) (refl, tt)
+fresh-lane limit c k h =
+    subst (λ (ch : Channel). LaneIs {A = List (ℕ × ℕ)} ch k limit c fresh) (sym (getD-replicate 16 k unheard unheard h)) (refl, tt)
 
 -- a fresh receiver stands for the account's beginning
 pub start-at : (cfg : Config) (p c : List ℕ) → startOf cfg .refusal ≡ 0 → 21433 ≤ length p → cfg .watch .n * cfg .limit ≤ length c
@@ -105,7 +105,7 @@ start-at cfg p c e hp hc =
         cursor = refl;
         queue = (refl, refl, refl);
         held = refl;
-        lines = λ k h. fresh-line (cfg .limit) c k (omega arith);
+        lanes = λ k h. fresh-lane (cfg .limit) c k (omega arith);
       };
       short = tt;
       frame = refl;

@@ -9,7 +9,7 @@ use borrow.Author.Tests.{le-ltb}
 use Rattle.wire.specs.Memory.{partOf}
 use Rattle.tlv.specs.Run.{Labelled, Event as Slot-event, note as slot-note, packet as slot-packet, State as Slot-state}
 use Rattle.reassembly.specs.declared.config.Config.{Config}
-use Rattle.reassembly.specs.Run.{Line, Event as Account-event}
+use Rattle.reassembly.specs.Run.{Lane, Event as Account-event}
 use Rattle.delivery.specs.declared.event.Event.{Event}
 use Rattle.delivery.specs.declared.event.Event.the-variants.{Nothing, Note, Unit, Refused}
 use Rattle.delivery.specs.declared.cursor.Found.{Found}
@@ -20,15 +20,15 @@ use Rattle.delivery.specs.declared.queue.Queue.{Queue}
 use Rattle.receiver.specs.declared.state.State.{State}
 use Rattle.intake.specs.Slot.{holding}
 use Rattle.receiver.specs.State.{withSlot, withQueue}
-use Rattle.delivery.specs.Queue.{takenOf}
+use Rattle.delivery.specs.Queue.{eventTaken}
 use Rattle.receiver.specs.Slot.{shortBy}
-use Rattle.receiver.specs.Next.{Out, onwards, readOn, readAll, nextOf, past, packetOf}
+use Rattle.receiver.specs.Next.{NextOut, onwards, readOn, readAll, nextOf, past, packetOf}
 use Rattle.delivery.specs.Cursor.{advancedOf, turnBy, turnOf, left}
-use Rattle.broadcast.specs.Account.{Read, readOf, afterRead, events, linesAfter}
+use Rattle.broadcast.specs.Account.{Read, readOf, afterRead, events, lanesAfter}
 use Rattle.broadcast.specs.Drains.{Shown, note, strip, shown, Drains, stops, notes, units, HeldIs, Tracks}
 use Rattle.broadcast.specs.Pending.{bare, Found as Waiting, slot-notes, a-packet, cursorPending, cursorLeaves, queuePending}
 use Rattle.broadcast.specs.SlotClaims.{CursorGood, Advances}
-use Rattle.broadcast.specs.PacketClaims.{QueueEmpty, QueueGood, LinesAre, Takes}
+use Rattle.broadcast.specs.PacketClaims.{QueueEmpty, QueueGood, LanesAre, Takes}
 use Rattle.broadcast.proofs.Advance.{advance}
 use Rattle.broadcast.proofs.PacketReads.{packet-does}
 use Rattle.broadcast.proofs.QueueTakes.{queue-gives}
@@ -64,12 +64,12 @@ module _ {A : Type 0} where
   packet-first b r (slot-packet p ∷ ws) e = record { labelled = p; rest = ws; first = refl; bytes = cc; more = cc }
 
 -- a state that owes next stands for slot events that are yet to be read, after its queue: shown in all are es, and the slots'
--- state and the lines at the end are tl and f
-pub record Owes {A : Type 0} (cfg : Config) (fr : Frame) (p : List ℕ) (es : List Shown) (tl : Slot-state A) (f : ℕ → Line (List A))
+-- state and the lanes at the end are tl and f
+pub record Owes {A : Type 0} (cfg : Config) (fr : Frame) (p : List ℕ) (es : List Shown) (tl : Slot-state A) (f : ℕ → Lane (List A))
     (st : State) (c : List ℕ) : Type 0 where
   pub waiting : List (Slot-event A)
-  pub now : ℕ → Line (List A)
-  pub lines : LinesAre cfg st c now
+  pub now : ℕ → Lane (List A)
+  pub lanes : LanesAre cfg st c now
   pub frame : st .frame ≡ fr
   pub owed : st .owed ≡ true
   pub queue-good : QueueGood (st .queue) p
@@ -77,24 +77,24 @@ pub record Owes {A : Type 0} (cfg : Config) (fr : Frame) (p : List ℕ) (es : Li
   pub finds : cursorPending (st .cursor) p ≡ map bare waiting
   pub shows : es ≡ queuePending (st .queue) p c ++ map strip (events cfg now waiting)
   pub leaves : HeldIs (cursorLeaves (st .cursor) (st .held) p) p tl
-  pub ends : linesAfter cfg now waiting ≡ f
+  pub ends : lanesAfter cfg now waiting ≡ f
 
 -- an event of next, the first of those that wait
-pub record First {A : Type 0} (cfg : Config) (fr : Frame) (p : List ℕ) (es : List Shown) (tl : Slot-state A) (f : ℕ → Line (List A))
+pub record First {A : Type 0} (cfg : Config) (fr : Frame) (p : List ℕ) (es : List Shown) (tl : Slot-state A) (f : ℕ → Lane (List A))
     (e : Shown) (st : State) (c : List ℕ) : Type 0 where
   pub later : List Shown
   pub first : es ≡ e ∷ later
   pub owes : Owes cfg fr p later tl f st c
 
 -- nothing waits, and the state stands for tl and f
-pub record Paid {A : Type 0} (cfg : Config) (fr : Frame) (p : List ℕ) (es : List Shown) (tl : Slot-state A) (f : ℕ → Line (List A))
+pub record Paid {A : Type 0} (cfg : Config) (fr : Frame) (p : List ℕ) (es : List Shown) (tl : Slot-state A) (f : ℕ → Lane (List A))
     (st : State) (c : List ℕ) : Type 0 where
   pub none : es ≡ []
   pub frame : st .frame ≡ fr
   pub tracks : Tracks cfg st p c tl f
 
 -- the calls of next until nothing waits show es, and leave a state that stands for tl and f
-pub record Settles {A : Type 0} (cfg : Config) (fr : Frame) (p : List ℕ) (tl : Slot-state A) (f : ℕ → Line (List A)) (es : List Shown)
+pub record Settles {A : Type 0} (cfg : Config) (fr : Frame) (p : List ℕ) (tl : Slot-state A) (f : ℕ → Lane (List A)) (es : List Shown)
     (st : State) (c : List ℕ) : Type 0 where
   pub state : State
   pub collecting : List ℕ
@@ -103,26 +103,26 @@ pub record Settles {A : Type 0} (cfg : Config) (fr : Frame) (p : List ℕ) (tl :
   pub tracks : Tracks cfg state p collecting tl f
 
 module _ {A : Type 0} (cfg : Config) (fr : Frame) (p : List ℕ)
-    (long : 21433 ≤ length p) (tl : Slot-state A) (f : ℕ → Line (List A)) where
+    (long : 21433 ≤ length p) (tl : Slot-state A) (f : ℕ → Lane (List A)) where
   abbrev Told : List Shown → Event → State → List ℕ → Type 0
   Told es Nothing st c = Paid cfg fr p es tl f st c
   Told es (Note n id) st c = First cfg fr p es tl f (note n id) st c
   Told es (Unit g) st c = First cfg fr p es tl f (shown g p c) st c
   Told es (Refused n) st c = ⊥
 
-  abbrev ToldOut : List Shown → Out → Type 0
+  abbrev ToldOut : List Shown → NextOut → Type 0
   ToldOut es r = Told es (r .0 .event) (r .0 .state) (r .1)
 
-  -- the lines do not depend on the queue, the cursor or the held bytes
-  relined : {st st' : State} {c : List ℕ} {g : ℕ → Line (List A)} → LinesAre cfg st c g → st' .config ≡ st .config
-      → st' .channels ≡ st .channels → LinesAre cfg st' c g
-  relined l e k =
+  -- the lanes do not depend on the queue, the cursor or the held bytes
+  relaned : {st st' : State} {c : List ℕ} {g : ℕ → Lane (List A)} → LanesAre cfg st c g → st' .config ≡ st .config
+      → st' .channels ≡ st .channels → LanesAre cfg st' c g
+  relaned l e k =
       record {
         config = e ∙ l .config;
         channels = ap length k ∙ l .channels;
         places = l .places;
         collecting-long = l .collecting-long;
-        lines = λ i h. rw k (l .lines i h);
+        lanes = λ i h. rw k (l .lanes i h);
       }
 
   -- what is owed with another queue
@@ -132,7 +132,7 @@ module _ {A : Type 0} (cfg : Config) (fr : Frame) (p : List ℕ)
       record {
         waiting = o .waiting;
         now = o .now;
-        lines = relined (o .lines) refl refl;
+        lanes = relaned (o .lanes) refl refl;
         frame = o .frame;
         owed = o .owed;
         queue-good = g;
@@ -144,22 +144,22 @@ module _ {A : Type 0} (cfg : Config) (fr : Frame) (p : List ℕ)
       }
 
   -- the events from a packet on
-  abbrev eventsBehind : Read → (ℕ → Line (List A)) → List A → List (Slot-event A) → List (Account-event (List A))
-  eventsBehind r g a ws = let y = afterRead cfg r g a in y .events ++ events cfg (y .lines) ws
+  abbrev eventsBehind : Read → (ℕ → Lane (List A)) → List A → List (Slot-event A) → List (Account-event (List A))
+  eventsBehind r g a ws = let y = afterRead cfg r g a in y .events ++ events cfg (y .lanes) ws
 
   -- what waits where the queue is empty
   waits : {es : List Shown} {st : State} {c : List ℕ} (o : Owes cfg fr p es tl f st c) → queuePending (st .queue) p c ≡ []
       → es ≡ map strip (events cfg (o .now) (o .waiting))
   waits o e = o .shows ∙ ap (λ (l : List Shown). l ++ map strip (events cfg (o .now) (o .waiting))) e
 
-  module _ (more : State → List ℕ → Out) (n : ℕ)
+  module _ (more : State → List ℕ → NextOut) (n : ℕ)
       (again : (es : List Shown) (st : State) (c : List ℕ) → left (st .cursor) < n → Owes cfg fr p es tl f st c
       → ToldOut es (more st c)) where
     -- what was found, the queue being empty; st has the cursor past it
     found-told : (x : Found) (es : List Shown) (st : State) (c : List ℕ) (cur : Cursor) → left (st .cursor) < suc n
         → Owes cfg fr p es tl f st c → QueueEmpty (st .queue) → queuePending (st .queue) p c ≡ []
         → Advances x (st .cursor) cur (st .held) p → ToldOut es (onwards x (withSlot st (st .held) cur) p c more)
-    unfolding events linesAfter
+    unfolding events lanesAfter
     found-told (AnEvent Nothing) es st c cur h o q e a = absurd a
     found-told (AnEvent (Note k id)) es st c cur h o q e b =
         let a = b .1 in
@@ -171,7 +171,7 @@ module _ {A : Type 0} (cfg : Config) (fr : Frame) (p : List ℕ)
           owes = record {
             waiting = w .rest;
             now = o .now;
-            lines = relined (o .lines) refl refl;
+            lanes = relaned (o .lanes) refl refl;
             frame = o .frame;
             owed = o .owed;
             queue-good = o .queue-good;
@@ -179,7 +179,7 @@ module _ {A : Type 0} (cfg : Config) (fr : Frame) (p : List ℕ)
             finds = w .more;
             shows = rw e;
             leaves = rw (a .leaves) at (o .leaves);
-            ends = ap (linesAfter cfg (o .now)) (sym (w .first)) ∙ o .ends;
+            ends = ap (lanesAfter cfg (o .now)) (sym (w .first)) ∙ o .ends;
           };
         })
     found-told (AnEvent (Unit g)) es st c cur h o q e a = absurd a
@@ -189,13 +189,13 @@ module _ {A : Type 0} (cfg : Config) (fr : Frame) (p : List ℕ)
         let b = partOf p s (t - s) in
         let w = packet-first b (cursorPending cur p) (o .waiting) (sym (a .gives) ∙ o .finds) in
         let r = packetOf st' p c s t in
-        let d = packet-does A cfg st' p c s t (o .now) (w .labelled .labels) (a .ordered) (a .inside) (relined (o .lines) refl refl) q in
+        let d = packet-does A cfg st' p c s t (o .now) (w .labelled .labels) (a .ordered) (a .inside) (relaned (o .lanes) refl refl) q in
         let y = afterRead cfg (readOf cfg b) (o .now) (w .labelled .labels) in
         again es (r .0) (r .1) (rw (d .cursor) (omega (arith, a .falls)))
         (record {
           waiting = w .rest;
-          now = y .lines;
-          lines = d .lines;
+          now = y .lanes;
+          lanes = d .lanes;
           frame = d .frame ∙ o .frame;
           owed = d .owed ∙ o .owed;
           queue-good = d .good;
@@ -204,13 +204,13 @@ module _ {A : Type 0} (cfg : Config) (fr : Frame) (p : List ℕ)
           shows =
               waits o e ∙ ap (λ (ws : List (Slot-event A)). map strip (events cfg (o .now) ws)) (w .first)
               ∙ ap (λ (x : List ℕ). map strip (eventsBehind (readOf cfg x) (o .now) (w .labelled .labels) (w .rest))) (w .bytes)
-              ∙ map-append strip (y .events) (events cfg (y .lines) (w .rest))
-              ∙ ap (λ (l : List Shown). l ++ map strip (events cfg (y .lines) (w .rest))) (sym (d .events));
+              ∙ map-append strip (y .events) (events cfg (y .lanes) (w .rest))
+              ∙ ap (λ (l : List Shown). l ++ map strip (events cfg (y .lanes) (w .rest))) (sym (d .events));
           leaves = rw (d .cursor, d .held) (rw (a .leaves) at (o .leaves));
           ends =
-              ap (λ (x : List ℕ). linesAfter cfg (afterRead cfg (readOf cfg x) (o .now) (w .labelled .labels) .lines) (w .rest))
+              ap (λ (x : List ℕ). lanesAfter cfg (afterRead cfg (readOf cfg x) (o .now) (w .labelled .labels) .lanes) (w .rest))
               (sym (w .bytes))
-              ∙ ap (linesAfter cfg (o .now)) (sym (w .first)) ∙ o .ends;
+              ∙ ap (lanesAfter cfg (o .now)) (sym (w .first)) ∙ o .ends;
         })
     found-told (Tail s l) es st c cur h o q e a =
         let z = none-waits (o .waiting) (sym (a .gives) ∙ o .finds) in
@@ -218,7 +218,7 @@ module _ {A : Type 0} (cfg : Config) (fr : Frame) (p : List ℕ)
         (record {
           waiting = [];
           now = o .now;
-          lines = relined (o .lines) refl refl;
+          lanes = relaned (o .lanes) refl refl;
           frame = o .frame;
           owed = o .owed;
           queue-good = o .queue-good;
@@ -226,25 +226,25 @@ module _ {A : Type 0} (cfg : Config) (fr : Frame) (p : List ℕ)
           finds = a .gives-more;
           shows = o .shows ∙ ap (λ (ws : List (Slot-event A)). queuePending (st .queue) p c ++ map strip (events cfg (o .now) ws)) z;
           leaves = rw (a .leaves-more) (rw (a .leaves) at (o .leaves));
-          ends = ap (linesAfter cfg (o .now)) (sym z) ∙ o .ends;
+          ends = ap (lanesAfter cfg (o .now)) (sym z) ∙ o .ends;
         })
     found-told Done es st c cur h o q e a =
         let z = none-waits (o .waiting) (sym (a .gives) ∙ o .finds) in
-        let g : o .now ≡ f = ap (linesAfter cfg (o .now)) (sym z) ∙ o .ends in
+        let g : o .now ≡ f = ap (lanesAfter cfg (o .now)) (sym z) ∙ o .ends in
         record {
           none = waits o e ∙ ap (λ (ws : List (Slot-event A)). map strip (events cfg (o .now) ws)) z;
           frame = o .frame;
           tracks = record {
-            config = o .lines .config;
+            config = o .lanes .config;
             packet-long = long;
-            collecting-long = o .lines .collecting-long;
-            places = o .lines .places;
-            channels = o .lines .channels;
+            collecting-long = o .lanes .collecting-long;
+            places = o .lanes .places;
+            channels = o .lanes .channels;
             paid = refl;
             cursor = a .stays ∙ a .over;
             queue = q;
             held = rw (a .leaves) at (o .leaves);
-            lines = rw g at (o .lines .lines);
+            lanes = rw g at (o .lanes .lanes);
           };
         }
 
@@ -277,7 +277,7 @@ module _ {A : Type 0} (cfg : Config) (fr : Frame) (p : List ℕ)
   unfolding readOn turnOf
   read-told zero es st c h o = absurd (omega arith)
   read-told (suc n) es st c h o =
-      let t = takenOf (st .queue) p in
+      let t = eventTaken (st .queue) p in
       let g = queue-gives (st .queue) p c (o .queue-good) in
       taken-told (λ s d. readOn n s p d) n (read-told n) (t .event) es st c (t .queue) h o (g .0) (g .1)
 
@@ -321,13 +321,13 @@ module _ {A : Type 0} (cfg : Config) (fr : Frame) (p : List ℕ)
   pub settle : (es : List Shown) (st : State) (c : List ℕ) → Owes cfg fr p es tl f st c → Settles cfg fr p tl f es st c
   settle [] st c o =
       let r = readOn (suc (left (st .cursor))) st p c in
-      settle-by [] st (r .0 .state) c (r .1) (r .0 .event) (next-reads st c (o .lines .config) (o .owed) (o .lines .collecting-long))
+      settle-by [] st (r .0 .state) c (r .1) (r .0 .event) (next-reads st c (o .lanes .config) (o .owed) (o .lanes .collecting-long))
       (read-told (suc (left (st .cursor))) [] st c (omega arith) o)
       (λ xs x q u. let z : _≡_ {A = ℕ} 0 1 = cc in absurd (omega arith))
   settle (y ∷ ys) st c o =
       let r = readOn (suc (left (st .cursor))) st p c in
       settle-by (y ∷ ys) st (r .0 .state) c (r .1) (r .0 .event)
-      (next-reads st c (o .lines .config) (o .owed) (o .lines .collecting-long))
+      (next-reads st c (o .lanes .config) (o .owed) (o .lanes .collecting-long))
       (read-told (suc (left (st .cursor))) (y ∷ ys) st c (omega arith) o)
       (λ xs x q u.
       let e : xs ≡ ys = cc in

@@ -34,7 +34,7 @@ use Rattle.reassembly.specs.declared.join.Joined.{Joined}
 use Rattle.reassembly.specs.declared.note.JoinNote.the-variants.{AboveLimit}
 use Rattle.reassembly.specs.Notes.{numberOf}
 use Rattle.reassembly.specs.Join.{notesOf, joinOf}
-use Rattle.reassembly.specs.Run.{Input, note, Line, given, lineAfter, step}
+use Rattle.reassembly.specs.Run.{Input, note, Lane, given, laneAfter, step}
 use Rattle.broadcast.specs.Account.{inputFrom, readOf, afterRead, readBy, flowBy}
 use Rattle.broadcast.specs.PacketClaims.{FewEvents}
 
@@ -81,24 +81,24 @@ notes-count j = go (eqb (j .note) 0) (j .over)
     go false true = omega arith
     go false false = omega arith
 
-module _ {A : Type 0} (x : Input) (a : A) (l : Line A) (n : ℕ) (h : length (x .wholes) ≤ n) (z : 1 ≤ n) where
+module _ {A : Type 0} (x : Input) (a : A) (l : Lane A) (n : ℕ) (h : length (x .wholes) ≤ n) (z : 1 ≤ n) where
   given-count : (k : Action) → length (given k a x l) ≤ n
   given-count Nothing = omega arith
   given-count GiveWhole = rw length-map h
   given-count (Store at) = omega arith
   given-count (Complete at) = z
 
-step-count : {A : Type 0} (limit : ℕ) (l : Line A) (a : A) (x : Input) (n : ℕ) → length (x .wholes) ≤ n → 1 ≤ n
+step-count : {A : Type 0} (limit : ℕ) (l : Lane A) (a : A) (x : Input) (n : ℕ) → length (x .wholes) ≤ n → 1 ≤ n
     → length (step limit l a x .events) ≤ n + 2
 unfolding step
 step-count limit l a x n h z =
     let j = joinOf (l .channel) (x .piece) limit in
-    let m = lineAfter l a x j in
+    let m = laneAfter l a x j in
     let i = notes-count j in
     let g = given-count x a m n h z (j .action) in
     rw (length-append, length-map) (omega arith)
 
-module _ {A : Type 0} (cfg : Config) (f : ℕ → Line A) (a : A) where
+module _ {A : Type 0} (cfg : Config) (f : ℕ → Lane A) (a : A) where
   read-count : (m : List ℕ) (r : Reading) → length (afterRead cfg (readBy r m) f a .events) ≤ suc (length m) + 2
   read-count m Unwatched = omega arith
   read-count m (NotedPacket n id) = omega arith

@@ -25,29 +25,14 @@ use Rattle.delivery.specs.declared.cursor.Found.the-variants.{Event as AnEvent,
 use Rattle.delivery.specs.declared.queue.Queue.{Queue}
 use Rattle.delivery.specs.Choice.{by-test}
 use Rattle.delivery.specs.Cursor.{advancedOf, turnBy, turnOf, left}
-use Rattle.delivery.specs.Queue.{takenOf}
+use Rattle.delivery.specs.Queue.{eventTaken}
 use Rattle.receiver.specs.declared.state.State.{State}
 use Rattle.receiver.specs.declared.answer.Called.{Called}
 use Rattle.receiver.specs.State.{withSlot, withQueue}
-use Rattle.receiver.specs.Start.{refusalOf as startRefusal, freshState, startOf}
+use Rattle.receiver.specs.Start.{startRefusal, freshState, startOf}
 use Rattle.receiver.specs.Frame.{frameBusy, frameOf, lossOf, lostFrameOf, free}
-use Rattle.receiver.specs.Slot.{
-  Out as Slot-out,
-  refusalOf,
-  counted,
-  dueLength,
-  duePointers,
-  dueOwn,
-  wrongLength,
-  slotTaken,
-  slotOf,
-  lossTaken,
-  lostSlotOf,
-  ready,
-  right-length,
-  shortBy,
-}
-use Rattle.receiver.specs.Next.{Out, packetOf, past, onwards, readOn, readAll, nextOf}
+use Rattle.receiver.specs.Slot.{SlotOut, slotRefusal, counted, dueLength, duePointers, dueOwn, wrongLength, slotTaken, slotOf, lossTaken, lostSlotOf, ready, right-length, shortBy}
+use Rattle.receiver.specs.Next.{NextOut, packetOf, past, onwards, readOn, readAll, nextOf}
 use Rattle.receiver.specs.ReadOn.{packet-kept}
 use Rattle.broadcast.specs.Drains.{HeldIs}
 use Rattle.broadcast.specs.Pending.{cursorLeaves}
@@ -155,10 +140,10 @@ module _ (st : State) (p : List ℕ) (k : Holds st p) where
   lost-slot-holds : (packet collecting : ℕ) → Leaves (lostSlotOf st packet collecting)
   unfolding lostSlotOf
   lost-slot-holds packet collecting =
-      by-test Leaves (eqb (refusalOf st packet collecting) 0) _ _
+      by-test Leaves (eqb (slotRefusal st packet collecting) 0) _ _
       (λ e. loss-taken (dueOwn st) (ready st packet collecting (eqb-true _ _ e) .free)) (λ e. k)
 
-  abbrev Both : Slot-out → Type 0
+  abbrev Both : SlotOut → Type 0
   Both r = Holds (r .0 .state) (r .1)
 
   slot-taken : (o : Bool) (d : List ℕ) (t : Pointers) → st .owed ≡ false → 21433 ≤ length p → length d ≤ 5049
@@ -172,7 +157,7 @@ module _ (st : State) (p : List ℕ) (k : Holds st p) where
   slot-holds : (c d : List ℕ) → Both (slotOf st p c d)
   unfolding slotOf
   slot-holds c d =
-      by-test Both (eqb (refusalOf st (length p) (length c)) 0) _ _
+      by-test Both (eqb (slotRefusal st (length p) (length c)) 0) _ _
       (λ e.
       let r = ready st (length p) (length c) (eqb-true _ _ e) in
       by-test Both (wrongLength (dueLength st) (length d)) _ _ (λ w. k)
@@ -180,10 +165,10 @@ module _ (st : State) (p : List ℕ) (k : Holds st p) where
       (λ e. k)
 
 -- next
-abbrev LeavesNext : List ℕ → Out → Type 0
+abbrev LeavesNext : List ℕ → NextOut → Type 0
 LeavesNext p r = Holds (r .0 .state) p
 
-module _ (p : List ℕ) (more : State → List ℕ → Out)
+module _ (p : List ℕ) (more : State → List ℕ → NextOut)
     (again : (st : State) (c : List ℕ) → st .owed ≡ true → Holds st p → LeavesNext p (more st c)) where
   -- what was found, the queue being empty; the cursor cur is past it
   found-holds : (x : Found) (st : State) (c : List ℕ) (cur : Cursor) → st .owed ≡ true → (k : Holds st p)
@@ -233,7 +218,7 @@ read-holds : (n : ℕ) (p : List ℕ) (st : State) (c : List ℕ) → st .owed �
 unfolding readOn turnOf
 read-holds zero p st c o k = k
 read-holds (suc n) p st c o k =
-    let t = takenOf (st .queue) p in
+    let t = eventTaken (st .queue) p in
     turned-holds p (λ s d. readOn n s p d) (read-holds n p) (t .event) st c (t .queue) o k
 
 next-holds : (st : State) (p c : List ℕ) → Holds st p → LeavesNext p (nextOf st p c)

@@ -11,7 +11,7 @@ use Rattle.tmcc.specs.declared.layout.Layout.{Layout}
 use Rattle.tmcc.specs.declared.layout.Pointers.{Pointers}
 use Rattle.tlv.specs.Run.{Stepped, State as Slot-state, step, given, lost}
 use Rattle.reassembly.specs.declared.config.Config.{Config}
-use Rattle.reassembly.specs.Run.{Line}
+use Rattle.reassembly.specs.Run.{Lane}
 use Rattle.receiver.specs.declared.state.Frame.{Frame}
 use Rattle.delivery.specs.declared.queue.Queue.{Queue}
 use Rattle.receiver.specs.declared.state.State.{State}
@@ -19,7 +19,7 @@ use Rattle.receiver.specs.Frame.{frameBusy, lossOf, lostFrameOf}
 use Rattle.receiver.specs.Slot.{
   counted,
   ownOf,
-  refusalOf,
+  slotRefusal,
   shortBy,
   wrongLength,
   duePointers,
@@ -29,7 +29,7 @@ use Rattle.receiver.specs.Slot.{
   lost-own,
   lost-not-own,
 }
-use Rattle.broadcast.specs.Account.{events, linesAfter}
+use Rattle.broadcast.specs.Account.{events, lanesAfter}
 use Rattle.broadcast.specs.Drains.{Shown, strip, Drains, Tracks}
 use Rattle.broadcast.specs.Pending.{cursorPending, cursorLeaves, queuePending}
 use Rattle.broadcast.specs.SlotClaims.{Short, Reads}
@@ -50,22 +50,22 @@ empty-good q p e = rw (e .2) tt
 
 module _ {A : Type 0} (cfg : Config) where
   -- a slot was taken, and next is owed
-  reads-settles : (st : State) (fr : Frame) (p c : List ℕ) (tl : Slot-state A) (f : ℕ → Line (List A)) (r : State × List ℕ)
+  reads-settles : (st : State) (fr : Frame) (p c : List ℕ) (tl : Slot-state A) (f : ℕ → Lane (List A)) (r : State × List ℕ)
       (w : Stepped A) → Tracks cfg st p c tl f → Reads st fr p r w
-      → Settles cfg fr (r .1) (w .state) (linesAfter cfg f (w .events)) (map strip (events cfg f (w .events))) (r .0) c
+      → Settles cfg fr (r .1) (w .state) (lanesAfter cfg f (w .events)) (map strip (events cfg f (w .events))) (r .0) c
   reads-settles st fr p c tl f r w k d =
       let long : 21433 ≤ length (r .1) = rw (d .same-length) (k .packet-long) in
-      settle cfg fr (r .1) long (w .state) (linesAfter cfg f (w .events))
+      settle cfg fr (r .1) long (w .state) (lanesAfter cfg f (w .events))
       (map strip (events cfg f (w .events))) (r .0) c
       (record {
         waiting = w .events;
         now = f;
-        lines = record {
+        lanes = record {
           config = d .config ∙ k .config;
           channels = ap length (d .channels) ∙ k .channels;
           places = k .places;
           collecting-long = k .collecting-long;
-          lines = λ i h. rw (d .channels) (k .lines i h);
+          lanes = λ i h. rw (d .channels) (k .lanes i h);
         };
         frame = d .frame;
         owed = d .owed;
@@ -78,7 +78,7 @@ module _ {A : Type 0} (cfg : Config) where
       })
 
 -- a call is accepted, and next after it shows es
-pub record Item {A : Type 0} (cfg : Config) (m : Machine) (k : Call) (tl : Slot-state A) (f : ℕ → Line (List A)) (es : List Shown)
+pub record Item {A : Type 0} (cfg : Config) (m : Machine) (k : Call) (tl : Slot-state A) (f : ℕ → Lane (List A)) (es : List Shown)
     (l : Layout) (s : ℕ) : Type 0 where
   pub answer : did k m .answer ≡ accepted
   pub state : State
@@ -87,12 +87,12 @@ pub record Item {A : Type 0} (cfg : Config) (m : Machine) (k : Call) (tl : Slot-
   pub at : At cfg (record { state = state; packet = did k m .machine .packet; collecting = collecting }) tl f l s
 
 -- the same by what the call did
-Item-by : {A : Type 0} (cfg : Config) (d : Did) (tl : Slot-state A) (f : ℕ → Line (List A)) (es : List Shown) (l : Layout) (s : ℕ) → Type 0
+Item-by : {A : Type 0} (cfg : Config) (d : Did) (tl : Slot-state A) (f : ℕ → Lane (List A)) (es : List Shown) (l : Layout) (s : ℕ) → Type 0
 Item-by cfg d tl f es l s =
     (d .answer ≡ accepted) × (st : State) × (c : List ℕ) × Drains (d .machine .packet) (d .machine .state) (d .machine .collecting) es st c
     × At cfg (record { state = st; packet = d .machine .packet; collecting = c }) tl f l s
 
-item-by : {A : Type 0} (cfg : Config) (m : Machine) (k : Call) (d : Did) (tl : Slot-state A) (f : ℕ → Line (List A)) (es : List Shown)
+item-by : {A : Type 0} (cfg : Config) (m : Machine) (k : Call) (d : Did) (tl : Slot-state A) (f : ℕ → Lane (List A)) (es : List Shown)
     (l : Layout) (s : ℕ) → did k m ≡ d → Item-by cfg d tl f es l s → Item cfg m k tl f es l s
 unfolding Item-by
 item-by cfg m k d tl f es l s e i =
@@ -100,9 +100,9 @@ item-by cfg m k d tl f es l s e i =
     record { answer = j .0; state = j .1; collecting = j .2; drains = j .3; at = j .4 }
 
 -- the slot that is due is not refused for the state or the memories
-pub due : {A : Type 0} (cfg : Config) (m : Machine) (tl : Slot-state A) (f : ℕ → Line (List A)) (l : Layout) (s : ℕ) → At cfg m tl f l s
-    → s < 120 → refusalOf (m .state) (length (m .packet)) (length (m .collecting)) ≡ 0
-unfolding refusalOf shortBy
+pub due : {A : Type 0} (cfg : Config) (m : Machine) (tl : Slot-state A) (f : ℕ → Lane (List A)) (l : Layout) (s : ℕ) → At cfg m tl f l s
+    → s < 120 → slotRefusal (m .state) (length (m .packet)) (length (m .collecting)) ≡ 0
+unfolding slotRefusal shortBy
 due cfg m tl f l s a h =
     let k = a .tracks in
     rw (a .frame, k .config, k .paid, lt-leb _ _ h, le-ltb _ _ (k .packet-long), le-ltb _ _ (k .collecting-long))
@@ -116,10 +116,10 @@ next-due st l s e = rw (e, add-one)
 abbrev pointersIn : Layout → ℕ → Pointers
 pointersIn l s = getD (l .pointers) s (record { 0 = 0; 1 = 0 })
 
-module _ {A : Type 0} (cfg : Config) (m : Machine) (tl : Slot-state A) (f : ℕ → Line (List A)) (l : Layout) where
+module _ {A : Type 0} (cfg : Config) (m : Machine) (tl : Slot-state A) (f : ℕ → Lane (List A)) (l : Layout) where
   -- the account after slot events of w
   abbrev Item-of : Call → Stepped A → ℕ → Type 0
-  Item-of k w s = Item cfg m k (w .state) (linesAfter cfg f (w .events)) (map strip (events cfg f (w .events))) l s
+  Item-of k w s = Item cfg m k (w .state) (lanesAfter cfg f (w .events)) (map strip (events cfg f (w .events))) l s
 
   -- from what a call did to its item
   taken-item : (k : Call) (fr : Frame) (r : State × List ℕ) (w : Stepped A) (s : ℕ)
@@ -129,7 +129,7 @@ module _ {A : Type 0} (cfg : Config) (m : Machine) (tl : Slot-state A) (f : ℕ 
   unfolding Item-by
   taken-item k fr r w s e g t d =
       let x = reads-settles cfg (m .state) fr (m .packet) (m .collecting) tl f r w t d in
-      item-by cfg m k _ (w .state) (linesAfter cfg f (w .events)) (map strip (events cfg f (w .events))) l s e
+      item-by cfg m k _ (w .state) (lanesAfter cfg f (w .events)) (map strip (events cfg f (w .events))) l s e
       (refl, x .state, x .collecting, x .drains, record { tracks = x .tracks; short = d .slot .short; frame = x .frame ∙ g })
 
   pub own-item : (a : A) (s : ℕ) (d : List ℕ) → At cfg m tl f l s → s < 120 → getD (l .own) s false ≡ true

@@ -34,7 +34,7 @@ collects j l p c limit = collected (j .action) c (baseOf l limit) (bytesAt l p) 
 abbrev pub gatheredBytes : Indicator → List ℕ → Located → List ℕ → List ℕ
 gatheredBytes f old l p = gathered f old (inputAt l p .bytes)
 
--- what the packet gives, and what it leaves; `old` are the bytes of the open unit, `ls` the labels of the line after it
+-- what the packet gives, and what it leaves; `old` are the bytes of the open unit, `ls` the labels of the lane after it
 pub record Does {A : Type 0} (limit : ℕ) (l : Located) (p c : List ℕ) (a : A) (ls : List A) (old : List ℕ)
     (f : Indicator) (j : Joined)
     : Type 0 where

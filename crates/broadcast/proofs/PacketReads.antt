@@ -25,7 +25,7 @@ use Rattle.reassembly.specs.Channel.{unheard}
 use Rattle.reassembly.specs.declared.note.JoinNote.the-variants.{AboveLimit}
 use Rattle.reassembly.specs.Notes.{numberOf}
 use Rattle.reassembly.specs.Join.{notesOf}
-use Rattle.reassembly.specs.Run.{Input, Event, note as account-note, Line, lineAfter, eventsOf, step, withLine}
+use Rattle.reassembly.specs.Run.{Input, Event, note as account-note, Lane, laneAfter, eventsOf, step, withLane}
 use Rattle.delivery.specs.declared.packet.Located.{Located}
 use Rattle.delivery.specs.declared.packet.Arrived.the-variants.{Good}
 use Rattle.delivery.specs.declared.queue.Queue.{Queue}
@@ -43,9 +43,9 @@ use Rattle.broadcast.specs.Account.{
   readBy as accountRead,
   flowBy as accountFlow,
 }
-use Rattle.broadcast.specs.Drains.{Shown, note, strip, LineIs}
+use Rattle.broadcast.specs.Drains.{Shown, note, strip, LaneIs}
 use Rattle.broadcast.specs.Pending.{queuePending}
-use Rattle.broadcast.specs.PacketClaims.{QueueEmpty, QueueGood, LinesAre, Stands, PacketDoes}
+use Rattle.broadcast.specs.PacketClaims.{QueueEmpty, QueueGood, LanesAre, Stands, PacketDoes}
 use Rattle.broadcast.proofs.JoinCases.{joins}
 use Rattle.broadcast.proofs.JoinStands.{collects, Does, does}
 use Rattle.broadcast.proofs.PacketInput.{inputAt, input-at}
@@ -69,15 +69,15 @@ module _ {A : Type 0} (id : ℕ) (g : List Shown) (es : List (Event A)) (h : g �
   notes-first n false true = rw h
   notes-first n false false = rw h
 
-module _ {A : Type 0} (st : State) (p c : List ℕ) (f : ℕ → Line (List A)) (a : List A)
-    (L : LinesAre (st .config) st c f) (E : QueueEmpty (st .queue)) where
+module _ {A : Type 0} (st : State) (p c : List ℕ) (f : ℕ → Lane (List A)) (a : List A)
+    (L : LanesAre (st .config) st c f) (E : QueueEmpty (st .queue)) where
   abbrev Stood : State × List ℕ → After (List A) → Type 0
   Stood r w = Stands (st .config) st (r .0) p c (r .1) w
 
-  silent-stands : Stood (st, c) (record { lines = f; events = [] })
+  silent-stands : Stood (st, c) (record { lanes = f; events = [] })
   silent-stands =
       record {
-        lines = L;
+        lanes = L;
         events = empty-pending (st .queue) p c E;
         good = empty-good (st .queue) p E;
         size = refl;
@@ -89,16 +89,16 @@ module _ {A : Type 0} (st : State) (p c : List ℕ) (f : ℕ → Line (List A)) 
 
   noted-stands : (n id : ℕ) → eqb n 0 ≡ false
       → Stood (withQueue st (record { note = n; over = false; «packet_id» = id; give = empty .give }), c)
-      (record { lines = f; events = account-note n id ∷ [] })
+      (record { lanes = f; events = account-note n id ∷ [] })
   unfolding queuePending
   noted-stands n id z =
       record {
-        lines = record {
+        lanes = record {
           config = refl;
           channels = L .channels;
           places = L .places;
           collecting-long = L .collecting-long;
-          lines = L .lines;
+          lanes = L .lanes;
         };
         events = rw z;
         good = tt;
@@ -126,50 +126,50 @@ module _ {A : Type 0} (st : State) (p c : List ℕ) (f : ℕ → Line (List A)) 
     abbrev x : Input
     x = inputAt l p
 
-    abbrev line : Line (List A)
-    line = lineAfter (f k) a x j
+    abbrev lane : Lane (List A)
+    lane = laneAfter (f k) a x j
 
-    steps : step limit (f k) a x ≡ record { line = line; events = eventsOf a x j line }
+    steps : step limit (f k) a x ≡ record { lane = lane; events = eventsOf a x j lane }
     unfolding step
-    steps = rw (L .lines k within .0)
+    steps = rw (L .lanes k within .0)
 
     room : k * limit + limit ≤ length c
     room = omega (arith, regions limit k (st .config .watch .n) within, L .collecting-long)
 
-    did : Does limit l p c a (line .labels) (f k .bytes) (x .piece .indicator) j
+    did : Does limit l p c a (lane .labels) (f k .bytes) (x .piece .indicator) j
     did =
-        does limit l p c fit room a (line .labels) (f k .bytes) (ch .current) (x .piece .indicator) (ch .phase) j
-        (joins limit ch (x .piece)) (L .lines k within .1)
+        does limit l p c fit room a (lane .labels) (f k .bytes) (ch .current) (x .piece .indicator) (ch .phase) j
+        (joins limit ch (x .piece)) (L .lanes k within .1)
 
     abbrev c' : List ℕ
     c' = collects j l p c limit
 
-    lines-by : (i : ℕ) → i < st .config .watch .n → (t : Bool) → eqb i k ≡ t
-        → LineIs (getD (set (st .channels) k (j .channel)) i unheard) i limit c' (cond t line (f i))
-    lines-by i h true e =
+    lanes-by : (i : ℕ) → i < st .config .watch .n → (t : Bool) → eqb i k ≡ t
+        → LaneIs (getD (set (st .channels) k (j .channel)) i unheard) i limit c' (cond t lane (f i))
+    lanes-by i h true e =
         let q = eqb-true i k e in
         let s : getD (set (st .channels) k (j .channel)) k unheard ≡ j .channel =
         getD-set-same (st .channels) k (j .channel) unheard (omega (arith, L .channels, L .places, within)) in
         rw (q, s) (refl, did .collecting)
-    lines-by i h false e =
+    lanes-by i h false e =
         let q = eqb-false i k e in
         let o = getD (st .channels) i unheard in
         rw (getD-set-other (st .channels) k i (j .channel) unheard q)
-        (L .lines i h .0, did .others i q (o .phase) (o .current .len) (f i .bytes) (L .lines i h .1))
+        (L .lanes i h .0, did .others i q (o .phase) (o .current .len) (f i .bytes) (L .lanes i h .1))
 
     abbrev st' : State
     st' = withQueue (withChannels st (set (st .channels) k (j .channel))) (queueOf j l (baseOf l limit) (unitIn l p))
 
-    good-stands : Stood (st', c') (record { lines = withLine limit f k line; events = eventsOf a x j line })
+    good-stands : Stood (st', c') (record { lanes = withLane limit f k lane; events = eventsOf a x j lane })
     unfolding queuePending notesOf
     good-stands =
         record {
-          lines = record {
+          lanes = record {
             config = refl;
             channels = length-set (st .channels) k (j .channel) ∙ L .channels;
             places = L .places;
             collecting-long = rw (did .size) (L .collecting-long);
-            lines = λ i h. lines-by i h (eqb i k) refl;
+            lanes = λ i h. lanes-by i h (eqb i k) refl;
           };
           events = notes-first (l .packet .«packet_id») _ _ (did .give) (j .note) (eqb (j .note) 0) (j .over);
           good = did .good;
@@ -217,5 +217,5 @@ unfolding packetOf arrivedAt readOf
 packet-does A cfg st p c s e f a se el L E =
     let b = partOf p s (e - s) in
     let r = packetOf st p c s e in
-    subst (λ (g : Config). LinesAre g st c f → Stands g st (r .0) p c (r .1) (afterRead g (readOf g b) f a)) (L .config)
-    (λ (M : LinesAre (st .config) st c f). flow-stands st p c f a M E s e se el (flowOf b (st .config .cid)) refl) L
+    subst (λ (g : Config). LanesAre g st c f → Stands g st (r .0) p c (r .1) (afterRead g (readOf g b) f a)) (L .config)
+    (λ (M : LanesAre (st .config) st c f). flow-stands st p c f a M E s e se el (flowOf b (st .config .cid)) refl) L

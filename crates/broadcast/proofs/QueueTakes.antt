@@ -15,7 +15,7 @@ use Rattle.delivery.specs.declared.queue.Aggregate.{Aggregate}
 use Rattle.delivery.specs.declared.queue.Give.{Give}
 use Rattle.delivery.specs.declared.queue.Give.the-variants.{Nothing as NoUnit, One, Many}
 use Rattle.delivery.specs.declared.queue.Queue.{Queue}
-use Rattle.delivery.specs.Queue.{takenOf, giveBy}
+use Rattle.delivery.specs.Queue.{eventTaken, giveBy}
 use Rattle.receiver.specs.Show.{showOf}
 use Rattle.broadcast.specs.Drains.{unit}
 use Rattle.broadcast.specs.Pending.{queuePending}
@@ -68,19 +68,19 @@ module _ (id : ℕ) (p c : List ℕ) where
 
 -- by its note, and by note 64
 abbrev Gives : Queue → List ℕ → List ℕ → Type 0
-Gives q p c = let t = takenOf q p in Takes (t .event) q (t .queue) p c × QueueGood (t .queue) p
+Gives q p c = let t = eventTaken q p in Takes (t .event) q (t .queue) p c × QueueGood (t .queue) p
 
 give-first : (id : ℕ) (g : Give) (p c : List ℕ) → GiveGood g p → Gives (bare id g) p c
-unfolding takenOf
+unfolding eventTaken
 give-first id g p c h = give-takes id p c g h
 
 module _ (q : Queue) (p c : List ℕ) (h : QueueGood q p) where
   noted : eqb (q .note) 0 ≡ false → Gives q p c
-  unfolding takenOf queuePending
+  unfolding eventTaken queuePending
   noted e = rw e (rw e, h)
 
   over : eqb (q .note) 0 ≡ true → q .over ≡ true → Gives q p c
-  unfolding takenOf queuePending
+  unfolding eventTaken queuePending
   over e o = rw (e, o) (rw e, h)
 
   plain : eqb (q .note) 0 ≡ true → q .over ≡ false → Gives q p c

@@ -13,13 +13,13 @@ use Rattle.tmcc.proofs.Laws.{accepted as tmcc-accepted}
 use Rattle.tlv.proofs.Runs.{run-append}
 use Rattle.tlv.specs.Run.{State as Slot-state, Arrival, lost, step, run, stateAfter}
 use Rattle.reassembly.specs.declared.config.Config.{Config}
-use Rattle.reassembly.specs.Run.{Line}
+use Rattle.reassembly.specs.Run.{Lane}
 use Rattle.receiver.specs.declared.state.Frame.{Frame as ReceiverFrame}
 use Rattle.receiver.specs.declared.state.State.{State}
 use Rattle.receiver.specs.State.{withFrame, refused as refusedWith, accepted as acceptedAs}
 use Rattle.receiver.specs.Frame.{frameBusy, frameOf}
-use Rattle.receiver.specs.Slot.{wrongLength, refusalOf, slotOf, slotTaken, dueLength, dueOwn, duePointers}
-use Rattle.broadcast.specs.Account.{events, linesAfter}
+use Rattle.receiver.specs.Slot.{wrongLength, slotRefusal, slotOf, slotTaken, dueLength, dueOwn, duePointers}
+use Rattle.broadcast.specs.Account.{events, lanesAfter}
 use Rattle.broadcast.specs.Drains.{Shown, strip}
 use Rattle.broadcast.specs.Calls.{
   Machine,
@@ -99,7 +99,7 @@ module _ (cfg : Config) where
         collecting = m .collecting;
       }
 
-  pub frame-did : (m : Machine) (tl : Slot-state (ℕ × ℕ)) (f : ℕ → Line (List (ℕ × ℕ))) (l : Layout) (b : List ℕ) → At cfg m tl f l 120
+  pub frame-did : (m : Machine) (tl : Slot-state (ℕ × ℕ)) (f : ℕ → Lane (List (ℕ × ℕ))) (l : Layout) (b : List ℕ) → At cfg m tl f l 120
       → decodeOf b (cfg .stream) .refusal ≡ 0
       → did (frame b) m ≡ record { answer = accepted; machine = framed m (decodeOf b (cfg .stream) .layout) }
   unfolding did frameOf frameBusy
@@ -107,7 +107,7 @@ module _ (cfg : Config) where
       let n = tmcc-accepted b (cfg .stream) e .size in
       rw (eq-eqb _ _ n, a .frame, a .tracks .paid, a .tracks .config, e)
 
-  pub frame-at : (m : Machine) (tl : Slot-state (ℕ × ℕ)) (f : ℕ → Line (List (ℕ × ℕ))) (l l' : Layout) → At cfg m tl f l 120
+  pub frame-at : (m : Machine) (tl : Slot-state (ℕ × ℕ)) (f : ℕ → Lane (List (ℕ × ℕ))) (l l' : Layout) → At cfg m tl f l 120
       → At cfg (framed m l') tl f l' 0
   frame-at m tl f l l' a =
       let k = a .tracks in
@@ -122,7 +122,7 @@ module _ (cfg : Config) where
           cursor = k .cursor;
           queue = k .queue;
           held = k .held;
-          lines = k .lines;
+          lanes = k .lanes;
         };
         short = a .short;
         frame = refl;
@@ -134,15 +134,15 @@ module _ (cfg : Config) where
     pub refused-none : ref ≡ []
 
   module _ (d : Damage) where
-    abbrev Reads-all : ℕ → List Frame → Machine → Slot-state (ℕ × ℕ) → (ℕ → Line (List (ℕ × ℕ))) → List Made → Type 0
+    abbrev Reads-all : ℕ → List Frame → Machine → Slot-state (ℕ × ℕ) → (ℕ → Lane (List (ℕ × ℕ))) → List Made → Type 0
     Reads-all i rs m tl f xs =
         ReadsAs (allShown (reading d i rs) m xs) (refusals (reading d i rs) m xs)
         (map strip (events cfg f (run tl (arrivals (cfg .stream) d i rs))))
 
     -- the frames after the arrivals as' have been read
-    read-on : (i : ℕ) (rs : List Frame) (tl : Slot-state (ℕ × ℕ)) (f : ℕ → Line (List (ℕ × ℕ))) (as' : List (Arrival (ℕ × ℕ)))
+    read-on : (i : ℕ) (rs : List Frame) (tl : Slot-state (ℕ × ℕ)) (f : ℕ → Lane (List (ℕ × ℕ))) (as' : List (Arrival (ℕ × ℕ)))
         (all : List Shown) (ref : List ℕ) (l : Layout) (w : Went cfg tl f as' (reading d i rs) all ref l 120)
-        → Reads-all i rs (w .machine) (stateAfter tl as') (linesAfter cfg f (run tl as')) (w .left .calls)
+        → Reads-all i rs (w .machine) (stateAfter tl as') (lanesAfter cfg f (run tl as')) (w .left .calls)
         → ReadsAs all ref (map strip (events cfg f (run tl (as' ++ arrivals (cfg .stream) d i rs))))
     read-on i rs tl f as' all ref l w h =
         let xs = arrivals (cfg .stream) d i rs in
@@ -165,9 +165,9 @@ module _ (cfg : Config) where
 
     -- a frame, whose rest `again` reads
     module _ (i : ℕ) (r : Frame) (rs : List Frame)
-        (again : (l : Layout) (m : Machine) (tl : Slot-state (ℕ × ℕ)) (f : ℕ → Line (List (ℕ × ℕ))) (xs : List Made) → At cfg m tl f l 120
+        (again : (l : Layout) (m : Machine) (tl : Slot-state (ℕ × ℕ)) (f : ℕ → Lane (List (ℕ × ℕ))) (xs : List Made) → At cfg m tl f l 120
         → Follows (reading d (suc i) rs) m xs → Reads-all (suc i) rs m tl f xs) (l : Layout) (m : Machine) (tl : Slot-state (ℕ × ℕ))
-        (f : ℕ → Line (List (ℕ × ℕ))) (xs : List Made) (a : At cfg m tl f l 120) where
+        (f : ℕ → Lane (List (ℕ × ℕ))) (xs : List Made) (a : At cfg m tl f l 120) where
       frame-read : (gone : Bool) → decodeOf (r .block) (cfg .stream) .refusal ≡ 0 → length (r .slots) ≡ 120
           → SlotsFit (layoutIn (cfg .stream) r) 0 (r .slots) → Follows (frameTodo gone (d .slots i) r ++ reading d (suc i) rs) m xs
           → ReadsAs (allShown (frameTodo gone (d .slots i) r ++ reading d (suc i) rs) m xs)
@@ -176,7 +176,7 @@ module _ (cfg : Config) where
           (events cfg f
           (run tl
           (frameArrives gone (layoutIn (cfg .stream) r) (d .slots i) i (r .slots) ++ arrivals (cfg .stream) d (suc i) rs))))
-      unfolding run stateAfter events linesAfter
+      unfolding run stateAfter events lanesAfter
       frame-read true e n w q =
           let us = reading d (suc i) rs in
           let y = step tl lost in
@@ -202,7 +202,7 @@ module _ (cfg : Config) where
           let g = read-on (suc i) rs tl f (slotsArrive l' (d .slots i) i 0 (r .slots)) _ _ l' v h in
           record { shown-all = c .shows-on ∙ g .shown-all; refused-none = c .refuses-on ∙ g .refused-none }
 
-    pub frames-read : (i : ℕ) (rs : List Frame) (l : Layout) (m : Machine) (tl : Slot-state (ℕ × ℕ)) (f : ℕ → Line (List (ℕ × ℕ)))
+    pub frames-read : (i : ℕ) (rs : List Frame) (l : Layout) (m : Machine) (tl : Slot-state (ℕ × ℕ)) (f : ℕ → Lane (List (ℕ × ℕ)))
         (xs : List Made) → At cfg m tl f l 120 → FramesFit (cfg .stream) rs → Follows (reading d i rs) m xs → Reads-all i rs m tl f xs
     unfolding reading arrivals run events
     frames-read i [] l m tl f xs a w h =
@@ -215,9 +215,9 @@ module _ (cfg : Config) where
     -- what is handed on over the frames
     module _ (P : List Todo → Machine → Type 0) (hs : Hands cfg P) where
       frame-hands : (i : ℕ) (r : Frame) (us : List Todo) (l : Layout) (m : Machine) (tl : Slot-state (ℕ × ℕ))
-          (f : ℕ → Line (List (ℕ × ℕ))) → At cfg m tl f l 120 → (gone : Bool) → decodeOf (r .block) (cfg .stream) .refusal ≡ 0
+          (f : ℕ → Lane (List (ℕ × ℕ))) → At cfg m tl f l 120 → (gone : Bool) → decodeOf (r .block) (cfg .stream) .refusal ≡ 0
           → length (r .slots) ≡ 120 → SlotsFit (layoutIn (cfg .stream) r) 0 (r .slots)
-          → ((l' : Layout) (n : Machine) (u : Slot-state (ℕ × ℕ)) (g : ℕ → Line (List (ℕ × ℕ))) → At cfg n u g l' 120 → P us n)
+          → ((l' : Layout) (n : Machine) (u : Slot-state (ℕ × ℕ)) (g : ℕ → Lane (List (ℕ × ℕ))) → At cfg n u g l' 120 → P us n)
           → P (frameTodo gone (d .slots i) r ++ us) m
       frame-hands i r us l m tl f a true e n w h =
           let x = lost-frame-item cfg m tl f l a in
@@ -229,7 +229,7 @@ module _ (cfg : Config) where
           hs .by-frame (r .block) (slotsTodo (d .slots i) 0 (r .slots) ++ us) m (framed m l') (frame-did m tl f l (r .block) a e)
           (slots-hand cfg P hs (d .slots i) i (r .slots) 0 l' (framed m l') tl f us (frame-at m tl f l l' a) (omega (arith, n)) w (h l'))
 
-      pub frames-hand : (i : ℕ) (rs : List Frame) (l : Layout) (m : Machine) (tl : Slot-state (ℕ × ℕ)) (f : ℕ → Line (List (ℕ × ℕ)))
+      pub frames-hand : (i : ℕ) (rs : List Frame) (l : Layout) (m : Machine) (tl : Slot-state (ℕ × ℕ)) (f : ℕ → Lane (List (ℕ × ℕ)))
           → At cfg m tl f l 120 → FramesFit (cfg .stream) rs → P (reading d i rs) m
       unfolding reading
       frames-hand i [] l m tl f a w = hs .done m
@@ -285,7 +285,7 @@ module _ (cfg : Config) where
       go false y z q h = absurd (omega arith)
 
   -- a slot that is due and is accepted has its length
-  pub slot-accepted : (st : State) (p c d : List ℕ) → refusalOf st (length p) (length c) ≡ 0 → slotOf st p c d .0 .refusal ≡ 0
+  pub slot-accepted : (st : State) (p c d : List ℕ) → slotRefusal st (length p) (length c) ≡ 0 → slotOf st p c d .0 .refusal ≡ 0
       → wrongLength (dueLength st) (length d) ≡ false
   unfolding slotOf
   slot-accepted st p c d e h = go (wrongLength (dueLength st) (length d)) (rw e at h)
@@ -309,7 +309,7 @@ module _ (cfg : Config) where
   given-all s = false
 
   -- slots that are all given and accepted have their lengths
-  slots-fit : (i : ℕ) (ds : List (List ℕ)) (s : ℕ) (l : Layout) (m : Machine) (tl : Slot-state (ℕ × ℕ)) (f : ℕ → Line (List (ℕ × ℕ)))
+  slots-fit : (i : ℕ) (ds : List (List ℕ)) (s : ℕ) (l : Layout) (m : Machine) (tl : Slot-state (ℕ × ℕ)) (f : ℕ → Lane (List (ℕ × ℕ)))
       (ts : List Todo) (xs : List Made) → At cfg m tl f l s → s + length ds ≡ 120 → Follows (slotsTodo given-all s ds ++ ts) m xs
       → refusals (slotsTodo given-all s ds ++ ts) m xs ≡ [] → SlotsFit l s ds
   unfolding slotsTodo
@@ -327,7 +327,7 @@ module _ (cfg : Config) where
       let z = sym (y .refuses-on) ∙ e in
       (w, slots-fit i ds (suc s) l _ (x .does .state) _ ts (y .calls) (x .item .at) (omega (arith, n)) (y .follows) z)
 
-  pub frames-fit : (i : ℕ) (rs : List Frame) (l : Layout) (m : Machine) (tl : Slot-state (ℕ × ℕ)) (f : ℕ → Line (List (ℕ × ℕ)))
+  pub frames-fit : (i : ℕ) (rs : List Frame) (l : Layout) (m : Machine) (tl : Slot-state (ℕ × ℕ)) (f : ℕ → Lane (List (ℕ × ℕ)))
       (xs : List Made) → At cfg m tl f l 120 → Whole rs → Follows (reading none i rs) m xs → refusals (reading none i rs) m xs ≡ []
       → FramesFit (cfg .stream) rs
   unfolding reading

@@ -13,16 +13,16 @@ use Rattle.tmcc.specs.Layout.{blankLayout}
 use Rattle.tlv.proofs.Runs.{run-append}
 use Rattle.tlv.specs.Run.{Arrival, State as Slot-state, lost, step, run, stateAfter, searching}
 use Rattle.reassembly.specs.declared.config.Config.{Config}
-use Rattle.reassembly.specs.Run.{Line, fresh}
+use Rattle.reassembly.specs.Run.{Lane, fresh}
 use Rattle.receiver.specs.declared.state.Frame.{Frame as ReceiverFrame}
 use Rattle.delivery.specs.declared.event.Event.the-variants.{Nothing, Refused}
 use Rattle.receiver.specs.declared.state.State.{State}
 use Rattle.receiver.specs.State.{accepted as acceptedAs, refused as refusedWith}
 use Rattle.receiver.specs.Next.{answered, readOn, readAll, nextOf}
 use Rattle.delivery.specs.Cursor.{left}
-use Rattle.receiver.specs.Slot.{wrongLength, slotOf, lostSlotOf, lossTaken, dueOwn, shortBy, refusalOf as slotRefusal}
+use Rattle.receiver.specs.Slot.{wrongLength, slotOf, lostSlotOf, lossTaken, dueOwn, shortBy, slotRefusal}
 use Rattle.receiver.specs.Frame.{frameBusy, frameOf, lossOf, lostFrameOf}
-use Rattle.broadcast.specs.Account.{account, events, linesAfter}
+use Rattle.broadcast.specs.Account.{account, events, lanesAfter}
 use Rattle.broadcast.specs.Drains.{Shown, strip}
 use Rattle.broadcast.specs.Calls.{
   Machine,
@@ -87,7 +87,7 @@ use Rattle.broadcast.proofs.Reading.{
 
 module _ (cfg : Config) where
   -- a slot that is given and accepted has its length
-  fits : (d : List ℕ) (s : ℕ) (l : Layout) (m : Machine) (tl : Slot-state (ℕ × ℕ)) (f : ℕ → Line (List (ℕ × ℕ))) (us : List Todo)
+  fits : (d : List ℕ) (s : ℕ) (l : Layout) (m : Machine) (tl : Slot-state (ℕ × ℕ)) (f : ℕ → Lane (List (ℕ × ℕ))) (us : List Todo)
       (xs : List Made) (gone : Bool) → At cfg m tl f l s → s < 120 → Follows (call (slotCall gone d) ∷ us) m xs
       → refusals (call (slotCall gone d) ∷ us) m xs ≡ [] → gone ≡ false → wrongLength (getD (l .lengths) s 0) (length d) ≡ false
   fits d s l m tl f us xs gone a n h e z =
@@ -100,11 +100,11 @@ module _ (cfg : Config) where
 
   -- slots that are read without a refusal
   slots-told : (gone : ℕ → Bool) (i : ℕ) (ds : List (List ℕ)) (s : ℕ) (l : Layout) (m : Machine) (tl : Slot-state (ℕ × ℕ))
-      (f : ℕ → Line (List (ℕ × ℕ))) (ts : List Todo) (xs : List Made) → At cfg m tl f l s → s + length ds ≤ 120
+      (f : ℕ → Lane (List (ℕ × ℕ))) (ts : List Todo) (xs : List Made) → At cfg m tl f l s → s + length ds ≤ 120
       → Follows (slotsTodo gone s ds ++ ts) m xs → refusals (slotsTodo gone s ds ++ ts) m xs ≡ []
       → Went cfg tl f (slotsArrive l gone i s ds) ts (allShown (slotsTodo gone s ds ++ ts) m xs)
       (refusals (slotsTodo gone s ds ++ ts) m xs) l (s + length ds)
-  unfolding slotsTodo slotsArrive run stateAfter events linesAfter
+  unfolding slotsTodo slotsArrive run stateAfter events lanesAfter
   slots-told gone i [] s l m tl f ts xs a n h e =
       record {
         machine = m;
@@ -124,17 +124,17 @@ module _ (cfg : Config) where
       (omega arith)
       (went-on cfg m (slotCall (gone s) d) tl f l (suc s) y tail _ us ts xs (suc s + length ds) (x .item) (x .runs tail) (x .ends tail) h
       (λ ys q g.
-      slots-told gone i ds (suc s) l _ (y .state) (linesAfter cfg f (y .events)) ts ys (x .item .at) (omega arith) q (sym g ∙ e)))
+      slots-told gone i ds (suc s) l _ (y .state) (lanesAfter cfg f (y .events)) ts ys (x .item .at) (omega arith) q (sym g ∙ e)))
 
   module _ (d : Damage) where
     -- what the frames from number i on show
-    Tells : ℕ → List Frame → Machine → Slot-state (ℕ × ℕ) → (ℕ → Line (List (ℕ × ℕ))) → List Made → Type 0
+    Tells : ℕ → List Frame → Machine → Slot-state (ℕ × ℕ) → (ℕ → Lane (List (ℕ × ℕ))) → List Made → Type 0
     Tells i rs m tl f xs = allShown (reading d i rs) m xs ≡ map strip (events cfg f (run tl (arrivals (cfg .stream) d i rs)))
 
     -- the arrivals as', and then the frames from number i on
-    told-on : (i : ℕ) (rs : List Frame) (tl : Slot-state (ℕ × ℕ)) (f : ℕ → Line (List (ℕ × ℕ))) (as' : List (Arrival (ℕ × ℕ)))
+    told-on : (i : ℕ) (rs : List Frame) (tl : Slot-state (ℕ × ℕ)) (f : ℕ → Lane (List (ℕ × ℕ))) (as' : List (Arrival (ℕ × ℕ)))
         (all : List Shown) (ref : List ℕ) (l : Layout) (n : ℕ) (w : Went cfg tl f as' (reading d i rs) all ref l n)
-        → Tells i rs (w .machine) (stateAfter tl as') (linesAfter cfg f (run tl as')) (w .left .calls)
+        → Tells i rs (w .machine) (stateAfter tl as') (lanesAfter cfg f (run tl as')) (w .left .calls)
         → all ≡ map strip (events cfg f (run tl (as' ++ arrivals (cfg .stream) d i rs)))
     unfolding Tells
     told-on i rs tl f as' all ref l n w h =
@@ -152,7 +152,7 @@ module _ (cfg : Config) where
     begun-most r (g ∷ gs) n = omega (arith, n .0)
 
     -- the rest of a reading, by `again` where there is one
-    rest-told : (i : ℕ) (r : Frame) (rs : List Frame) (l : Layout) (m : Machine) (tl : Slot-state (ℕ × ℕ)) (f : ℕ → Line (List (ℕ × ℕ)))
+    rest-told : (i : ℕ) (r : Frame) (rs : List Frame) (l : Layout) (m : Machine) (tl : Slot-state (ℕ × ℕ)) (f : ℕ → Lane (List (ℕ × ℕ)))
         (xs : List Made) → Begun (r ∷ rs) → At cfg m tl f l (0 + length (r .slots)) → Follows (reading d i rs) m xs
         → (At cfg m tl f l 120 → Tells i rs m tl f xs) → Tells i rs m tl f xs
     unfolding Tells reading arrivals run events
@@ -160,9 +160,9 @@ module _ (cfg : Config) where
     rest-told i r (g ∷ gs) l m tl f xs n a h again = again (subst (λ (k : ℕ). At cfg m tl f l k) (omega (arith, n .0)) a)
 
     module _ (i : ℕ) (r : Frame) (rs : List Frame) (n : Begun (r ∷ rs))
-        (again : (l : Layout) (m : Machine) (tl : Slot-state (ℕ × ℕ)) (f : ℕ → Line (List (ℕ × ℕ))) (xs : List Made) → At cfg m tl f l 120
+        (again : (l : Layout) (m : Machine) (tl : Slot-state (ℕ × ℕ)) (f : ℕ → Lane (List (ℕ × ℕ))) (xs : List Made) → At cfg m tl f l 120
         → Follows (reading d (suc i) rs) m xs → refusals (reading d (suc i) rs) m xs ≡ [] → Tells (suc i) rs m tl f xs) (l : Layout)
-        (m : Machine) (tl : Slot-state (ℕ × ℕ)) (f : ℕ → Line (List (ℕ × ℕ))) (xs : List Made) (a : At cfg m tl f l 120) where
+        (m : Machine) (tl : Slot-state (ℕ × ℕ)) (f : ℕ → Lane (List (ℕ × ℕ))) (xs : List Made) (a : At cfg m tl f l 120) where
       frame-told : (gone : Bool) → Follows (frameTodo gone (d .slots i) r ++ reading d (suc i) rs) m xs
           → refusals (frameTodo gone (d .slots i) r ++ reading d (suc i) rs) m xs ≡ []
           → allShown (frameTodo gone (d .slots i) r ++ reading d (suc i) rs) m xs
@@ -170,7 +170,7 @@ module _ (cfg : Config) where
           (events cfg f
           (run tl
           (frameArrives gone (layoutIn (cfg .stream) r) (d .slots i) i (r .slots) ++ arrivals (cfg .stream) d (suc i) rs)))
-      unfolding run stateAfter events linesAfter
+      unfolding run stateAfter events lanesAfter
       frame-told true h e =
           let us = reading d (suc i) rs in
           let x = lost-frame-item cfg m tl f l a in
@@ -203,7 +203,7 @@ module _ (cfg : Config) where
           (rest-told (suc i) r rs l' (v .machine) _ _ (v .left .calls) n (v .at) (v .left .follows)
           (λ w. again l' (v .machine) _ _ (v .left .calls) w (v .left .follows) g))
 
-    frames-told : (i : ℕ) (rs : List Frame) (l : Layout) (m : Machine) (tl : Slot-state (ℕ × ℕ)) (f : ℕ → Line (List (ℕ × ℕ)))
+    frames-told : (i : ℕ) (rs : List Frame) (l : Layout) (m : Machine) (tl : Slot-state (ℕ × ℕ)) (f : ℕ → Lane (List (ℕ × ℕ)))
         (xs : List Made) → At cfg m tl f l 120 → Begun rs → Follows (reading d i rs) m xs → refusals (reading d i rs) m xs ≡ []
         → Tells i rs m tl f xs
     unfolding Tells reading arrivals run events

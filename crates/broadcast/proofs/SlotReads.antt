@@ -56,7 +56,7 @@ use Rattle.intake.specs.Slot.{
   copied,
   resumedOf,
   takenBy,
-  takenOf,
+  intakeOf,
   lostOf,
 }
 use Rattle.receiver.specs.State.{withSlot, withIntake}
@@ -309,7 +309,7 @@ module _ {A : Type 0} (a : A) (st : State) (p d : List ℕ) (t : Pointers) (owed
 
   pub own-reads : (tl : Slot-state A) → HeldIs (st .held) p tl → Short tl
       → Reads st (st .frame) p (ownOf st p d t) (step tl (given a (slotFrom d t)))
-  unfolding takenOf
+  unfolding intakeOf
   own-reads tl h l = rw (step-given tl a (slotFrom d t)) (own-by (sound d (t .0) (t .1)) refl tl h l)
 
 -- a lost slot

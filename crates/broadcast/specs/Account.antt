@@ -17,7 +17,7 @@ use Rattle.mmtp.specs.Payload.{piecesOf}
 use Rattle.reassembly.specs.declared.config.Config.{Config}
 use Rattle.reassembly.specs.declared.join.Piece.{Piece as JoinPiece}
 use Rattle.reassembly.specs.Unit.{carried}
-use Rattle.reassembly.specs.Run.{Content, Input, Event, note, Line, fresh, step, withLine}
+use Rattle.reassembly.specs.Run.{Content, Input, Event, note, Lane, fresh, step, withLane}
 use Rattle.tlv.specs.Run.{Event as Slot-event, note as slot-note, packet, Arrival, searching, run}
 
 -- what a TLV packet comes to
@@ -69,30 +69,30 @@ readOf c b = flowBy (flowOf b (c .cid)) c b
 
 -- the state of all packet_ids, and the events, after a packet with its label
 pub record After (A : Type 0) : Type 0 where
-  pub lines : ℕ → Line A
+  pub lanes : ℕ → Lane A
   pub events : List (Event A)
 
 module _ {A : Type 0} (c : Config) where
-  abbrev pub afterRead : Read → (ℕ → Line A) → A → After A
-  afterRead silent f a = record { lines = f; events = [] }
-  afterRead (noted n id) f a = record { lines = f; events = note n id ∷ [] }
+  abbrev pub afterRead : Read → (ℕ → Lane A) → A → After A
+  afterRead silent f a = record { lanes = f; events = [] }
+  afterRead (noted n id) f a = record { lanes = f; events = note n id ∷ [] }
   afterRead (input x) f a =
       let s = step (c .limit) (f (x .place)) a x in
-      record { lines = withLine (c .limit) f (x .place) (s .line); events = s .events }
+      record { lanes = withLane (c .limit) f (x .place) (s .lane); events = s .events }
 
 module _ {A : Type 0} (c : Config) where
   -- a note of a slot, or a packet, whose label is the list of its slots' labels
-  abbrev pub afterEvent : Slot-event A → (ℕ → Line (List A)) → After (List A)
-  afterEvent (slot-note n) f = record { lines = f; events = note n 0 ∷ [] }
+  abbrev pub afterEvent : Slot-event A → (ℕ → Lane (List A)) → After (List A)
+  afterEvent (slot-note n) f = record { lanes = f; events = note n 0 ∷ [] }
   afterEvent (packet p) f = afterRead c (readOf c (p .bytes)) f (p .labels)
 
-  unfoldable pub events : (ℕ → Line (List A)) → List (Slot-event A) → List (Event (List A))
+  unfoldable pub events : (ℕ → Lane (List A)) → List (Slot-event A) → List (Event (List A))
   events f [] = []
-  events f (e ∷ es) = let r = afterEvent e f in r .events ++ events (r .lines) es
+  events f (e ∷ es) = let r = afterEvent e f in r .events ++ events (r .lanes) es
 
-  unfoldable pub linesAfter : (ℕ → Line (List A)) → List (Slot-event A) → ℕ → Line (List A)
-  linesAfter f [] = f
-  linesAfter f (e ∷ es) = linesAfter (afterEvent e f .lines) es
+  unfoldable pub lanesAfter : (ℕ → Lane (List A)) → List (Slot-event A) → ℕ → Lane (List A)
+  lanesAfter f [] = f
+  lanesAfter f (e ∷ es) = lanesAfter (afterEvent e f .lanes) es
 
   -- the account of a list of own live slots, given or lost, read by a fresh receiver
   unfoldable pub account : List (Arrival A) → List (Event (List A))

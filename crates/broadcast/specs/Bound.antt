@@ -5,7 +5,7 @@ use mathlib.Core.List.{List, [], _∷_}
 use lib.ListN.{length}
 use Rattle.tlv.specs.Run.{Slot, State as Slot-state, lost, given, step}
 use Rattle.reassembly.specs.declared.config.Config.{Config}
-use Rattle.reassembly.specs.Run.{Line}
+use Rattle.reassembly.specs.Run.{Lane}
 use Rattle.broadcast.specs.Account.{events}
 use Rattle.broadcast.specs.SlotClaims.{Short}
 use Rattle.broadcast.specs.Calls.{frame, lost-frame, slot, lost-slot, next, Made, own, shows, added}
@@ -14,7 +14,7 @@ use Rattle.broadcast.specs.Calls.{frame, lost-frame, slot, lost-slot, ne
 -- most one
 abbrev pub SlotBound : Type 1
 SlotBound =
-    (A : Type 0) (cfg : Config) (f : ℕ → Line (List A)) (tl : Slot-state A) → Short tl
+    (A : Type 0) (cfg : Config) (f : ℕ → Lane (List A)) (tl : Slot-state A) → Short tl
     → ((a : A) (s : Slot) → length (s .bytes) ≤ 5049 → length (events cfg f (step tl (given a s) .events)) ≤ 42868)
     × (length (events cfg f (step tl lost .events)) ≤ 1)
 

@@ -133,8 +133,8 @@ abbrev pub FrameLost : Type 0
 FrameLost = Shows frameLost (unit (whole 9) ∷ note 40 0 ∷ unit joined ∷ note 60 17 ∷ unit (whole 12) ∷ [])
 
 -- and demand 3 says the same of the units
-abbrev pub Left : Damage → List Content → Type 0
-Left d us =
+abbrev pub Remain : Damage → List Content → Type 0
+Remain d us =
     (p c : List ℕ) → Memories p c → (ys : List Made) → Reads config frames d p c ys
     → unitsOf (shownOf config frames d p c ys) ≡ us
 
@@ -156,6 +156,6 @@ BroadcastClaims =
     × Undamaged
     × SlotLost
     × FrameLost
-    × Left slotLost (whole 10 ∷ whole 11 ∷ joined ∷ whole 12 ∷ [])
-    × Left frameLost (whole 9 ∷ joined ∷ whole 12 ∷ [])
+    × Remain slotLost (whole 10 ∷ whole 11 ∷ joined ∷ whole 12 ∷ [])
+    × Remain frameLost (whole 9 ∷ joined ∷ whole 12 ∷ [])
     × ByteHeld

@@ -179,12 +179,12 @@ refusalIn nothing = []
 refusalIn (noted n id) = []
 refusalIn (given g) = []
 
-abbrev pub refusalOf : Made → Machine → List ℕ
-refusalOf (own c) m = refusalIn (did c m .answer)
-refusalOf shows m = []
-refusalOf (added c) m = []
+abbrev pub callRefusal : Made → Machine → List ℕ
+callRefusal (own c) m = refusalIn (did c m .answer)
+callRefusal shows m = []
+callRefusal (added c) m = []
 
 -- the refusals of the reading's own calls
 abbrev pub refusals : List Todo → Machine → List Made → List ℕ
 refusals ts m [] = []
-refusals ts m (x ∷ xs) = refusalOf x m ++ refusals (rest ts x m) (machineAfter x m) xs
+refusals ts m (x ∷ xs) = callRefusal x m ++ refusals (rest ts x m) (machineAfter x m) xs

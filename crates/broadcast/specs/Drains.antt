@@ -11,7 +11,7 @@ use Rattle.reassembly.specs.declared.channel.Channel.{Channel}
 use Rattle.reassembly.specs.declared.channel.Phase.{Phase}
 use Rattle.reassembly.specs.declared.channel.Phase.the-variants.{Unheard, Waiting, Idle, Open}
 use Rattle.reassembly.specs.Channel.{unheard}
-use Rattle.reassembly.specs.Run.{Content, Event as Account-event, note as account-note, unit as account-unit, Line}
+use Rattle.reassembly.specs.Run.{Content, Event as Account-event, note as account-note, unit as account-unit, Lane}
 use Rattle.delivery.specs.declared.event.Event.the-variants.{Nothing, Note, Unit}
 use Rattle.delivery.specs.declared.event.Given.{Given}
 use Rattle.intake.specs.declared.held.Held.{Held}
@@ -56,11 +56,11 @@ OpenIs Waiting k limit len b c = Prim.Unit {0}
 OpenIs Idle k limit len b c = Prim.Unit {0}
 OpenIs Open k limit len b c = (len ≤ limit) × (b ≡ take len (drop (k * limit) c))
 
-abbrev pub LineIs : {A : Type 0} → Channel → ℕ → ℕ → List ℕ → Line A → Type 0
-LineIs ch k limit c l = (l .channel ≡ ch) × OpenIs (ch .phase) k limit (ch .current .len) (l .bytes) c
+abbrev pub LaneIs : {A : Type 0} → Channel → ℕ → ℕ → List ℕ → Lane A → Type 0
+LaneIs ch k limit c l = (l .channel ≡ ch) × OpenIs (ch .phase) k limit (ch .current .len) (l .bytes) c
 
 -- the receiver's state and memories, nothing being owed, stand for the state of the slots and of all packet_ids
-pub record Tracks {A : Type 0} (cfg : Config) (st : State) (p c : List ℕ) (tl : Slot-state A) (f : ℕ → Line (List A)) : Type 0 where
+pub record Tracks {A : Type 0} (cfg : Config) (st : State) (p c : List ℕ) (tl : Slot-state A) (f : ℕ → Lane (List A)) : Type 0 where
   pub config : st .config ≡ cfg
   pub packet-long : 21433 ≤ length p
   pub collecting-long : cfg .watch .n * cfg .limit ≤ length c
@@ -70,4 +70,4 @@ pub record Tracks {A : Type 0} (cfg : Config) (st : State) (p c : List ℕ) (tl 
   pub cursor : st .cursor ≡ noted 0
   pub queue : (st .queue .note ≡ 0) × (st .queue .over ≡ false) × (st .queue .give ≡ empty .give)
   pub held : HeldIs (st .held) p tl
-  pub lines : (k : ℕ) → k < cfg .watch .n → LineIs (getD (st .channels) k unheard) k (cfg .limit) c (f k)
+  pub lanes : (k : ℕ) → k < cfg .watch .n → LaneIs (getD (st .channels) k unheard) k (cfg .limit) c (f k)

@@ -8,17 +8,17 @@ use Rattle.wire.specs.Memory.{partOf}
 use Rattle.mmtp.specs.Unit.{aggregate}
 use Rattle.reassembly.specs.declared.config.Config.{Config}
 use Rattle.reassembly.specs.Channel.{unheard}
-use Rattle.reassembly.specs.Run.{Line}
+use Rattle.reassembly.specs.Run.{Lane}
 use Rattle.delivery.specs.declared.event.Event.{Event}
 use Rattle.delivery.specs.declared.event.Event.the-variants.{Nothing, Note, Unit, Refused}
 use Rattle.delivery.specs.declared.queue.Give.{Give}
 use Rattle.delivery.specs.declared.queue.Give.the-variants.{Nothing as NoUnit, One, Many}
 use Rattle.delivery.specs.declared.queue.Queue.{Queue}
 use Rattle.receiver.specs.declared.state.State.{State}
-use Rattle.delivery.specs.Queue.{empty, takenOf}
+use Rattle.delivery.specs.Queue.{empty, eventTaken}
 use Rattle.receiver.specs.Next.{packetOf}
 use Rattle.broadcast.specs.Account.{After, readOf, afterRead}
-use Rattle.broadcast.specs.Drains.{note, shown, strip, LineIs}
+use Rattle.broadcast.specs.Drains.{note, shown, strip, LaneIs}
 use Rattle.broadcast.specs.Pending.{queuePending}
 
 -- nothing waits in the queue
@@ -36,17 +36,17 @@ GiveGood (Many a) p =
 abbrev pub QueueGood : Queue → List ℕ → Type 0
 QueueGood q p = GiveGood (q .give) p
 
--- the collecting memory has its places, and each packet_id's state and bytes are those of its line
-pub record LinesAre {A : Type 0} (cfg : Config) (st : State) (c : List ℕ) (f : ℕ → Line (List A)) : Type 0 where
+-- the collecting memory has its places, and each packet_id's state and bytes are those of its lane
+pub record LanesAre {A : Type 0} (cfg : Config) (st : State) (c : List ℕ) (f : ℕ → Lane (List A)) : Type 0 where
   pub config : st .config ≡ cfg
   pub channels : length (st .channels) ≡ 16
   pub places : cfg .watch .n ≤ 16
   pub collecting-long : cfg .watch .n * cfg .limit ≤ length c
-  pub lines : (k : ℕ) → k < cfg .watch .n → LineIs (getD (st .channels) k unheard) k (cfg .limit) c (f k)
+  pub lanes : (k : ℕ) → k < cfg .watch .n → LaneIs (getD (st .channels) k unheard) k (cfg .limit) c (f k)
 
--- the state and the collecting memory after a packet: the lines and the events are those of the account, the rest is as it was
+-- the state and the collecting memory after a packet: the lanes and the events are those of the account, the rest is as it was
 pub record Stands {A : Type 0} (cfg : Config) (st st' : State) (p c c' : List ℕ) (w : After (List A)) : Type 0 where
-  pub lines : LinesAre cfg st' c' (w .lines)
+  pub lanes : LanesAre cfg st' c' (w .lanes)
   pub events : queuePending (st' .queue) p c' ≡ map strip (w .events)
   pub good : QueueGood (st' .queue) p
   pub size : length c' ≡ length c
@@ -58,8 +58,8 @@ pub record Stands {A : Type 0} (cfg : Config) (st st' : State) (p c c' : List �
 -- the TLV packet that stands from `s` to `e` in packet memory
 abbrev pub PacketDoes : Type 1
 PacketDoes =
-    (A : Type 0) (cfg : Config) (st : State) (p c : List ℕ) (s e : ℕ) (f : ℕ → Line (List A)) (a : List A)
-    → s ≤ e → e ≤ length p → LinesAre cfg st c f → QueueEmpty (st .queue)
+    (A : Type 0) (cfg : Config) (st : State) (p c : List ℕ) (s e : ℕ) (f : ℕ → Lane (List A)) (a : List A)
+    → s ≤ e → e ≤ length p → LanesAre cfg st c f → QueueEmpty (st .queue)
     → let r = packetOf st p c s e in
     Stands cfg st (r .0) p c (r .1) (afterRead cfg (readOf cfg (partOf p s (e - s))) f a)
 
@@ -73,11 +73,11 @@ Takes (Refused n) q q' p c = ⊥
 abbrev pub QueueGives : Type 0
 QueueGives =
     (q : Queue) (p c : List ℕ) → QueueGood q p
-    → let t = takenOf q p in
+    → let t = eventTaken q p in
     Takes (t .event) q (t .queue) p c × QueueGood (t .queue) p
 
 -- a packet has no more events than two notes and a unit for each byte
 abbrev pub FewEvents : Type 1
 FewEvents =
-    (A : Type 0) (cfg : Config) (b : List ℕ) (f : ℕ → Line A) (a : A)
+    (A : Type 0) (cfg : Config) (b : List ℕ) (f : ℕ → Lane A) (a : A)
     → length (afterRead cfg (readOf cfg b) f a .events) ≤ length b + 2

@@ -9,7 +9,7 @@ use Rattle.wire.specs.Memory.{partOf}
 use Rattle.tmcc.specs.declared.layout.Pointers.{Pointers}
 use Rattle.tlv.specs.Run.{Slot, State as Slot-state, searching as slot-searching, held, Stepped, lost, given, step}
 use Rattle.reassembly.specs.declared.config.Config.{Config}
-use Rattle.reassembly.specs.Run.{Line}
+use Rattle.reassembly.specs.Run.{Lane}
 use Rattle.delivery.specs.declared.cursor.Found.{Found}
 use Rattle.delivery.specs.declared.event.Event.{Event as AnEvent}
 use Rattle.delivery.specs.declared.event.Event.the-variants.{Nothing, Note, Unit as Given-unit, Refused}
@@ -61,17 +61,17 @@ slotFrom d t = record { top = t .0; last = t .1; bytes = d }
 
 -- an own live slot with its data
 abbrev pub OwnSlot : Type 1
-OwnSlot = (A : Type 0) (a : A) (cfg : Config) (st : State) (p c : List ℕ) (tl : Slot-state A) (f : ℕ → Line (List A))
+OwnSlot = (A : Type 0) (a : A) (cfg : Config) (st : State) (p c : List ℕ) (tl : Slot-state A) (f : ℕ → Lane (List A))
     → Tracks cfg st p c tl f → Short tl → (d : List ℕ) → length d ≤ 5049 → (t : Pointers)
     → Reads st (counted st .frame) p (ownOf (counted st) p d t) (step tl (given a (slotFrom d t)))
 
 -- a lost one, and a lost frame: packet memory stays as it is
 abbrev pub LostSlot : Type 1
-LostSlot = (A : Type 0) (cfg : Config) (st : State) (p c : List ℕ) (tl : Slot-state A) (f : ℕ → Line (List A))
+LostSlot = (A : Type 0) (cfg : Config) (st : State) (p c : List ℕ) (tl : Slot-state A) (f : ℕ → Lane (List A))
     → Tracks cfg st p c tl f → Reads st (counted st .frame) p (lossOf (counted st), p) (step tl lost)
 
 abbrev pub LostFrame : Type 1
-LostFrame = (A : Type 0) (cfg : Config) (st : State) (p c : List ℕ) (tl : Slot-state A) (f : ℕ → Line (List A))
+LostFrame = (A : Type 0) (cfg : Config) (st : State) (p c : List ℕ) (tl : Slot-state A) (f : ℕ → Lane (List A))
     → Tracks cfg st p c tl f → Reads st (st .frame) p (lossOf st, p) (step tl lost)
 
 -- one step of next over the cursor c, with packet memory p and held bytes h, by what it finds; c' is the cursor past that

@@ -23,7 +23,7 @@ use Rattle.capture.specs.Command.{letterOf, sizeOf, whole, size-by, slot
 use Rattle.capture.specs.Command.{size-none}
 use Rattle.capture.specs.Capture.{Done, fits, callOf, afterCall, settled, doneOf, lastLine, textOf}
 use Rattle.capture.specs.Steps.{roomy, actedOf, pouredOf}
-use Rattle.capture.specs.Feed.{World, heldOf, wantedOf, keptOf, Keeps, wholeSize, gatheredOf, takenOf, sourceOf, ranOf}
+use Rattle.capture.specs.Feed.{World, heldOf, wantedOf, keptOf, Keeps, wholeSize, gatheredOf, bytesTaken, sourceOf, ranOf}
 use Rattle.capture.specs.Feed.{goesBy, goes, turnOf, fedBy, fedFrom, keeps-all, keeps-none, wanted-first, wanted-rest}
 use Rattle.capture.specs.Feed.{kept-all, kept-none, ran-part, ran-whole, goes-read, whole-front, taken-whole, taken-held}
 use Rattle.capture.specs.Feed.{taken-part, source-block, source-gathered, turn-by}
@@ -334,12 +334,12 @@ module _ (block : List ℕ) (w : World) (r : Right block w) (g : goes block w �
         go true e = turn-part (ltb-true _ _ e)
         go false e = turn-whole (ltb-false _ _ e)
 
-    turn-made : (record { took = n; gathered = end }, d) ≡ takenOf (w .command) (w .held) block (w .read)
+    turn-made : (record { took = n; gathered = end }, d) ≡ bytesTaken (w .command) (w .held) block (w .read)
         → x ≡ sourceOf d end block (w .read) (w .read + n) → Right block v × Feeds block w v
     turn-made e q =
         rw (turn-by block w (record { took = n; gathered = end }) d e x q _ _ _ _ refl _ refl) turn-takes
 
-  gathered-feeds : takenOf (w .command) (w .held) block (w .read) ≡ gatheredOf (w .command) (w .held) block (w .read)
+  gathered-feeds : bytesTaken (w .command) (w .held) block (w .read) ≡ gatheredOf (w .command) (w .held) block (w .read)
       → Right block v × Feeds block w v
   unfolding gatheredOf
   gathered-feeds e =

@@ -11,9 +11,9 @@ use Rattle.mmtp.specs.Watch.{firstFrom, lookupOf}
 use Rattle.reassembly.specs.Channel.{unheard}
 use Rattle.intake.specs.Slot.{lostOf}
 use Rattle.delivery.specs.Cursor.{left}
-use Rattle.receiver.specs.Start.{before, twiceBelow, twice, freshState, refusalOf as startRefusal, startOf}
+use Rattle.receiver.specs.Start.{before, twiceBelow, twice, freshState, startRefusal, startOf}
 use Rattle.receiver.specs.Frame.{frameBusy, frameOf, lossOf, lostFrameOf}
-use Rattle.receiver.specs.Slot.{shortBy, refusalOf, slotOf, lostSlotOf}
+use Rattle.receiver.specs.Slot.{shortBy, slotRefusal, slotOf, lostSlotOf}
 use Rattle.receiver.specs.Next.{nextOf}
 use Rattle.lines.specs.Decimal.{digits, decimal}
 use Rattle.lines.specs.Line.{field, refusedLine, endLine}
@@ -63,7 +63,7 @@ Captures =
 
 captures : Captures
 unfolding be tab allBelow countBelow lastBelow dataBytes within used unused modeGood slotsOf modesGood decodeOf firstFrom lookupOf
-    unheard lostOf before twiceBelow twice freshState startRefusal startOf frameBusy frameOf lossOf lostFrameOf shortBy refusalOf
+    unheard lostOf before twiceBelow twice freshState startRefusal startOf frameBusy frameOf lossOf lostFrameOf shortBy slotRefusal
     slotOf lostSlotOf nextOf digits decimal field refusedLine endLine letterOf slotSize sizeOf whole idsOf configOf freshSession
     queueWaits cursorWaits waitsBy left callOf afterCall doneOf eventLine tallied closed drainedBy drainedOf textBy textOf
     captureOf

@@ -50,8 +50,8 @@ wholeSize b =
     cond (eqb (length b) 0) 0 (cond (eqb (sizeOf b) 0) 1 (cond (ltb (length b) (sizeOf b)) 0 (sizeOf b)))
 
 -- where nothing is held, a command that stands whole in the block is taken from there; else bytes are gathered
-unfoldable pub takenOf : List ℕ → ℕ → List ℕ → ℕ → Turn × List ℕ
-takenOf command held block read =
+unfoldable pub bytesTaken : List ℕ → ℕ → List ℕ → ℕ → Turn × List ℕ
+bytesTaken command held block read =
     let n = wholeSize (drop read block) in
     cond (eqb held 0 && not (eqb n 0)) (record { took = n; gathered = 0 }, command) (gatheredOf command held block read)
 
@@ -93,7 +93,7 @@ goes block w = goesBy (w .session) (w .read) (length block) (w .written) (length
 -- one turn: bytes of the block are taken, and a command that is whole is carried out
 unfoldable pub turnOf : List ℕ → World → World
 turnOf block w =
-    let g = takenOf (w .command) (w .held) block (w .read) in
+    let g = bytesTaken (w .command) (w .held) block (w .read) in
     let end = w .read + g .0 .took in
     let b = sourceOf (g .1) (g .0 .gathered) block (w .read) end in
     let r = ranOf (w .session) b (w .packet) (w .collecting) (w .out) (w .written) in
@@ -117,10 +117,10 @@ fedBy (suc f) block w = cond (goes block w) (fedBy f block (turnOf block w)) w
 unfoldable pub fedFrom : List ℕ → World → World
 fedFrom block w = fedBy (length block - w .read) block w
 
-abbrev pub Left : Type 0
-Left = Fed × List ℕ × List ℕ × List ℕ × List ℕ
+abbrev pub FeedLeaves : Type 0
+FeedLeaves = Fed × List ℕ × List ℕ × List ℕ × List ℕ
 
-abbrev pub leftBy : World → Left
+abbrev pub leftBy : World → FeedLeaves
 leftBy w = (
   record { session = w .session; held = w .held; read = w .read; written = w .written },
   w .command,
@@ -143,7 +143,7 @@ entered s held command p c out =
     }
 
 -- a block is fed; a command memory under 65,538 bytes is not used
-unfoldable pub fedOf : Session → ℕ → List ℕ → List ℕ → List ℕ → List ℕ → List ℕ → Left
+unfoldable pub fedOf : Session → ℕ → List ℕ → List ℕ → List ℕ → List ℕ → List ℕ → FeedLeaves
 fedOf s held command block p c out =
     cond (ltb (length command) 65538) (leftBy (entered s held command p c out))
     (leftBy (fedFrom block (entered s (keptOf command held) command p c out)))
@@ -257,16 +257,16 @@ whole-front b z = go (eqb (length b) 0) (eqb (sizeOf b) 0) (ltb (length b) (size
 module _ (command : List ℕ) (held : ℕ) (block : List ℕ) (read : ℕ) where
   -- taken from the block, or gathered
   pub taken-whole : held ≡ 0 → (wholeSize (drop read block) ≡ 0 → ⊥)
-      → takenOf command held block read ≡ (record { took = wholeSize (drop read block); gathered = 0 }, command)
-  unfolding takenOf
+      → bytesTaken command held block read ≡ (record { took = wholeSize (drop read block); gathered = 0 }, command)
+  unfolding bytesTaken
   taken-whole h z = rw (eq-eqb _ _ h, ne-eqb _ _ z)
 
-  pub taken-held : (held ≡ 0 → ⊥) → takenOf command held block read ≡ gatheredOf command held block read
-  unfolding takenOf
+  pub taken-held : (held ≡ 0 → ⊥) → bytesTaken command held block read ≡ gatheredOf command held block read
+  unfolding bytesTaken
   taken-held h = rw (ne-eqb _ _ h)
 
-  pub taken-part : wholeSize (drop read block) ≡ 0 → takenOf command held block read ≡ gatheredOf command held block read
-  unfolding takenOf
+  pub taken-part : wholeSize (drop read block) ≡ 0 → bytesTaken command held block read ≡ gatheredOf command held block read
+  unfolding bytesTaken
   taken-part z = rw (eq-eqb _ _ z, and-false (eqb held 0))
 
   pub gathered-by : (d : List ℕ) (n : ℕ) → read ≤ length block → n ≡ min (wantedOf (heldOf command held)) (length block - read)
@@ -328,8 +328,8 @@ module _ (command : List ℕ) (held : ℕ) (block : List ℕ) (read : ℕ) (h : 
     unfolding gatheredOf
     gathered-some = (omega arith, omega arith)
 
-    pub taken-some : Some (takenOf command held block read)
-    unfolding takenOf
+    pub taken-some : Some (bytesTaken command held block read)
+    unfolding bytesTaken
     taken-some =
         let n = wholeSize (drop read block) in
         by-test Some (eqb held 0 && not (eqb n 0)) (record { took = n; gathered = 0 }, command) (gatheredOf command held block read)
@@ -421,14 +421,14 @@ module _ (command : List ℕ) (held : ℕ) (block : List ℕ) (read : ℕ) (k : 
       rw (length-drop read block) (omega arith) in
       (omega arith, length-pasted command held (drop read block) _ h q)
 
-  pub taken-within : Within (takenOf command held block read)
-  unfolding takenOf
+  pub taken-within : Within (bytesTaken command held block read)
+  unfolding bytesTaken
   taken-within =
       let n = wholeSize (drop read block) in
       by-test Within (eqb held 0 && not (eqb n 0)) (record { took = n; gathered = 0 }, command)
       (gatheredOf command held block read) (λ e. (omega arith, refl)) (λ e. gathered-within)
 
-pub taken-by : (command d : List ℕ) (held : ℕ) (block : List ℕ) (read : ℕ) (g : Turn) → (g, d) ≡ takenOf command held block read
+pub taken-by : (command d : List ℕ) (held : ℕ) (block : List ℕ) (read : ℕ) (g : Turn) → (g, d) ≡ bytesTaken command held block read
     → Keeps command held → read < length block → 65538 ≤ length command
     → (1 ≤ g .took) × (read + g .took ≤ length block) × (g .gathered ≤ 65538) × (length d ≡ length command)
 taken-by command d held block read g e k l m =
@@ -436,7 +436,7 @@ taken-by command d held block read g e k l m =
     let w = rw (← e) at (taken-within command held block read k m) in
     (s .0, s .1, w .0, w .1)
 
-pub turn-by : (block : List ℕ) (w : World) (g : Turn) (d : List ℕ) → (g, d) ≡ takenOf (w .command) (w .held) block (w .read)
+pub turn-by : (block : List ℕ) (w : World) (g : Turn) (d : List ℕ) → (g, d) ≡ bytesTaken (w .command) (w .held) block (w .read)
     → (b : List ℕ) → b ≡ sourceOf d (g .gathered) block (w .read) (w .read + g .took)
     → (r : Progress) (p c o : List ℕ) → (r, p, c, o) ≡ ranOf (w .session) b (w .packet) (w .collecting) (w .out) (w .written)
     → (k : ℕ) → k ≡ keptOf d (g .gathered)

@@ -10,7 +10,7 @@ use Rattle.capture.specs.declared.session.Session.{Session}
 use Rattle.capture.specs.Session.{busy, isEnded, freshSession}
 use Rattle.capture.specs.Capture.{lastLine, captureOf}
 use Rattle.capture.specs.Steps.{Poured, roomy, pouredOf}
-use Rattle.capture.specs.Feed.{Left, fedOf}
+use Rattle.capture.specs.Feed.{FeedLeaves, fedOf}
 
 -- what the calls hand on
 pub record Player : Type 0 where
@@ -21,10 +21,10 @@ pub record Player : Type 0 where
   pub collecting : List ℕ
 
 -- a call of feed, and of pour
-abbrev pub fed : Player → List ℕ → List ℕ → Left
+abbrev pub fed : Player → List ℕ → List ℕ → FeedLeaves
 fed x block out = fedOf (x .session) (x .held) (x .command) block (x .packet) (x .collecting) out
 
-abbrev pub afterFeed : Left → Player
+abbrev pub afterFeed : FeedLeaves → Player
 afterFeed r = record { session = r .0 .session; held = r .0 .held; command = r .1; packet = r .2; collecting = r .3 }
 
 abbrev pub poured : Player → List ℕ → Poured
@@ -55,7 +55,7 @@ PlayClaim =
 
 -- a capture that is fed at once: the first of its lines were written, and where a longest line has room behind them, the last line
 -- alone is left
-pub record AtOnce (lines out : List ℕ) (f : Left) : Type 0 where
+pub record AtOnce (lines out : List ℕ) (f : FeedLeaves) : Type 0 where
   pub text : List ℕ
   pub rest : List ℕ
   pub whole : lines ≡ text ++ rest

@@ -10,7 +10,7 @@ use lib.Dec.{leb}
 use Rattle.delivery.specs.declared.event.Event.{Event}
 use Rattle.receiver.specs.declared.answer.Called.{Called}
 use Rattle.receiver.specs.Slot.{shortBy}
-use Rattle.receiver.specs.Next.{Out, readAll, nextOf, next-short, next-reads}
+use Rattle.receiver.specs.Next.{NextOut, readAll, nextOf, next-short, next-reads}
 use Rattle.receiver.specs.ReadOn.{next-calm}
 use Rattle.capture.specs.declared.command.Letter.{Letter}
 use Rattle.capture.specs.declared.session.Phase.the-variants.{Ended}
@@ -129,7 +129,7 @@ module _ (s : Session) (p c out : List ℕ) (at : ℕ) where
   pub pour-stops : (busy s && roomy (length out) at) ≡ false → pouredOf s p c out at ≡ pouredAt s c (at, out)
   pour-stops h = pour-step ∙ rw h
 
-  pub pour-next : (busy s && roomy (length out) at) ≡ true → (o : Out) → nextOf (s .state) p c ≡ o
+  pub pour-next : (busy s && roomy (length out) at) ≡ true → (o : NextOut) → nextOf (s .state) p c ≡ o
       → pouredOf s p c out at ≡ pourBy (o .0 .event) (withState s (o .0 .state)) (o .1) out at (λ t d o a. pouredOf t p d o a)
   pour-next h o e = pour-step ∙ rw (h, e)
 
@@ -148,7 +148,7 @@ module _ (s : Session) (p c out : List ℕ) (at : ℕ) where
     pour-short r e n o w = pour-next s p c out at (rw (h, r)) _ (next-short (s .state) p c e) ∙ rw (← w)
 
 -- one event at a time: `o` is what reading on comes to
-module _ (s : Session) (p c : List ℕ) (d : Drains s (length p) (length c)) (o : Out) (e : o ≡ readAll (s .state) p c) where
+module _ (s : Session) (p c : List ℕ) (d : Drains s (length p) (length c)) (o : NextOut) (e : o ≡ readAll (s .state) p c) where
   -- the session after it
   abbrev stepped : Session
   stepped = withTally (withState s (o .0 .state)) (tallied (s .tally) (o .0 .event))

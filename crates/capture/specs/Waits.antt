@@ -27,7 +27,7 @@ use Rattle.delivery.specs.declared.cursor.Found.{Found}
 use Rattle.delivery.specs.declared.cursor.Found.the-variants.{Event, Packet, Tail, Done}
 use Rattle.delivery.specs.declared.cursor.Advanced.{Advanced}
 use Rattle.delivery.specs.Within.{part-within}
-use Rattle.delivery.specs.Queue.{takenOf, nextUnit, taken-note, taken-over, taken-nothing, taken-one, taken-many}
+use Rattle.delivery.specs.Queue.{eventTaken, nextUnit, taken-note, taken-over, taken-nothing, taken-one, taken-many}
 use Rattle.delivery.specs.Cursor.{one, span, left, isEvent, goesOn, advancedOf, slotAdvanced, tailAdvanced, turnOf, turn-event}
 use Rattle.delivery.specs.Cursor.{turn-on, advanced-less, advanced-note, advanced-packet, advanced-slot, advanced-done}
 use Rattle.delivery.specs.Cursor.{slot-packet, slot-tail}
@@ -35,7 +35,7 @@ use Rattle.intake.specs.Slot.{holding}
 use Rattle.receiver.specs.declared.state.State.{State}
 use Rattle.receiver.specs.State.{withSlot}
 use Rattle.receiver.specs.Slot.{shortBy}
-use Rattle.receiver.specs.Next.{Out, past, onwards, packetOf, readOn, readAll, nextOf, next-short, next-idle, next-reads}
+use Rattle.receiver.specs.Next.{NextOut, past, onwards, packetOf, readOn, readAll, nextOf, next-short, next-idle, next-reads}
 use Rattle.receiver.specs.ReadOn.{packet-kept}
 use Rattle.lines.specs.Line.{isLine}
 
@@ -117,7 +117,7 @@ module _ (q : Queue) (p : List ℕ) where
   Falls t = isEvent (t .event) ≡ true → queueWaits (t .queue) p < queueWaits q p
 
   many-falls : (a : Aggregate) (s : Step) → q .note ≡ 0 → q .over ≡ false → q .give ≡ Many a → nextUnit a p ≡ s
-      → Falls (takenOf q p)
+      → Falls (eventTaken q p)
   unfolding queueWaits
   many-falls a (UnitAt u) n o g e =
       let w = unit-on (partOf p (a .start) (a .end - a .start)) (a .at) _ _ u e in
@@ -126,23 +126,23 @@ module _ (q : Queue) (p : List ℕ) where
   many-falls a Malformed n o g e = rw (taken-many q p n o a g Malformed e) (λ h. absurd (true≢false (sym h)))
   many-falls a End n o g e = rw (taken-many q p n o a g End e) (λ h. absurd (true≢false (sym h)))
 
-  give-falls : (g : Give) → q .note ≡ 0 → q .over ≡ false → q .give ≡ g → Falls (takenOf q p)
+  give-falls : (g : Give) → q .note ≡ 0 → q .over ≡ false → q .give ≡ g → Falls (eventTaken q p)
   unfolding queueWaits
   give-falls Nothing n o g = rw (taken-nothing q p n o g) (λ h. absurd (true≢false (sym h)))
   give-falls (One x) n o g = rw (taken-one q p n o x g) (λ h. rw g (omega arith))
   give-falls (Many a) n o g = many-falls a (nextUnit a p) n o g refl
 
-  over-falls : (b : Bool) → q .note ≡ 0 → q .over ≡ b → Falls (takenOf q p)
+  over-falls : (b : Bool) → q .note ≡ 0 → q .over ≡ b → Falls (eventTaken q p)
   unfolding queueWaits
   over-falls true n o = rw (taken-over q p n o) (λ h. rw (n, o) (omega arith))
   over-falls false n o = give-falls (q .give) n o refl
 
-  note-falls : (b : Bool) → eqb (q .note) 0 ≡ b → Falls (takenOf q p)
+  note-falls : (b : Bool) → eqb (q .note) 0 ≡ b → Falls (eventTaken q p)
   unfolding queueWaits
   note-falls true e = over-falls (q .over) (eqb-true _ _ e) refl
   note-falls false e = rw (taken-note q p (eqb-false _ _ e)) (λ h. rw e (omega arith))
 
-  pub taken-falls : isEvent (takenOf q p .event) ≡ true → queueWaits (takenOf q p .queue) p < queueWaits q p
+  pub taken-falls : isEvent (eventTaken q p .event) ≡ true → queueWaits (eventTaken q p .queue) p < queueWaits q p
   taken-falls = note-falls (eqb (q .note) 0) refl
 
 -- the cursor has less left past what it comes to
@@ -201,9 +201,9 @@ module _ (q : Queue) (cur : Cursor) (p : List ℕ) where
   goes-done Done g = absurd (true≢false (sym g))
 
   pub turn-falls : let t = turnOf q cur p in TurnFalls (t .found) (t .cursor) (t .queue)
-  turn-falls = go (isEvent (takenOf q p .event)) refl
+  turn-falls = go (isEvent (eventTaken q p .event)) refl
     where
-      go : (b : Bool) → isEvent (takenOf q p .event) ≡ b → let t = turnOf q cur p in TurnFalls (t .found) (t .cursor) (t .queue)
+      go : (b : Bool) → isEvent (eventTaken q p .event) ≡ b → let t = turnOf q cur p in TurnFalls (t .found) (t .cursor) (t .queue)
       go true e =
           rw (turn-event q cur p e)
           (λ h. queue-falls cur q _ p (taken-falls q p e), λ g. absurd (true≢false (sym g)))
@@ -216,10 +216,10 @@ module _ (q : Queue) (cur : Cursor) (p : List ℕ) where
 
 -- after a line less waits, and next is owed as before
 module _ (p : List ℕ) where
-  abbrev Ends : State → Out → Type 0
+  abbrev Ends : State → NextOut → Type 0
   Ends st o = isLine (o .0 .event) ≡ true → (waits (o .0 .state) p < waits st p) × (o .0 .state .owed ≡ st .owed)
 
-  onwards-falls : (st : State) (c : List ℕ) (f : State → List ℕ → Out) (x : Found) → turnOf (st .queue) (st .cursor) p .found ≡ x
+  onwards-falls : (st : State) (c : List ℕ) (f : State → List ℕ → NextOut) (x : Found) → turnOf (st .queue) (st .cursor) p .found ≡ x
       → ((s : State) (d : List ℕ) → Ends s (f s d)) → Ends st (onwards x (past st (turnOf (st .queue) (st .cursor) p)) p c f)
   onwards-falls st c f (Event e) h k = λ g. (turn-falls (st .queue) (st .cursor) p .0 (rw h refl), refl)
   onwards-falls st c f (Packet start end) h k =

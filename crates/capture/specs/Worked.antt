@@ -23,13 +23,13 @@ use Rattle.mmtp.specs.Payload.{tested, payloadOf}
 use Rattle.mmtp.specs.Unit.{fieldBytes, fieldsOf, singleFits, singleUnit, singleAt}
 use Rattle.reassembly.specs.Channel.{nextPsn, heard, gap, unheard}
 use Rattle.reassembly.specs.Join.{interrupted, begun, acted, joinOf}
-use Rattle.intake.specs.Slot.{cursorFrom, resumedAs, movedMem, continuedMem, resumedMem, copied, resumedOf, takenOf, lostOf}
+use Rattle.intake.specs.Slot.{cursorFrom, resumedAs, movedMem, continuedMem, resumedMem, copied, resumedOf, intakeOf, lostOf}
 use Rattle.delivery.specs.Packet.{arrivedAt, firstUnit, collected, giveOf, joinedOf}
-use Rattle.delivery.specs.Queue.{takenOf as takenFrom}
+use Rattle.delivery.specs.Queue.{eventTaken}
 use Rattle.delivery.specs.Cursor.{turnOf, advancedOf, slotAdvanced, tailAdvanced, left}
-use Rattle.receiver.specs.Start.{before, twiceBelow, twice, freshState, refusalOf as startRefusal, startOf}
+use Rattle.receiver.specs.Start.{before, twiceBelow, twice, freshState, startRefusal, startOf}
 use Rattle.receiver.specs.Frame.{frameBusy, frameOf, lossOf, lostFrameOf}
-use Rattle.receiver.specs.Slot.{shortBy, refusalOf, counted, wrongLength, slotOf, lostSlotOf}
+use Rattle.receiver.specs.Slot.{shortBy, slotRefusal, counted, wrongLength, slotOf, lostSlotOf}
 use Rattle.receiver.specs.Next.{packetOf, readOn, readAll, nextOf}
 use Rattle.lines.specs.Decimal.{digits, decimal}
 use Rattle.lines.specs.Line.{field, placeText, carriedText, unitLine, idText, noteLine, refusedLine, endLine}
@@ -79,9 +79,9 @@ unfolding be pasted partOf tab allBelow countBelow lastBelow dataBytes within us
     compressedOf behind compressedHeader headerOf plain payloadStart fixedBytes extensionBytes extensionLength payloadAt
     lookupOf firstFrom readingOf headRead lookedUp bodyRead indicatorOf fragmentTypeOf mpuOf signallingOf parsedOf counterFits
     aggregationFits unitsFit tested payloadOf fieldBytes fieldsOf singleFits singleUnit singleAt nextPsn heard gap unheard
-    interrupted begun acted joinOf cursorFrom resumedAs movedMem continuedMem resumedMem copied resumedOf takenOf lostOf
-    arrivedAt firstUnit collected giveOf joinedOf takenFrom turnOf advancedOf slotAdvanced tailAdvanced left before twiceBelow
-    twice freshState startRefusal startOf frameBusy frameOf lossOf lostFrameOf shortBy refusalOf counted wrongLength slotOf
+    interrupted begun acted joinOf cursorFrom resumedAs movedMem continuedMem resumedMem copied resumedOf intakeOf lostOf
+    arrivedAt firstUnit collected giveOf joinedOf eventTaken turnOf advancedOf slotAdvanced tailAdvanced left before twiceBelow
+    twice freshState startRefusal startOf frameBusy frameOf lossOf lostFrameOf shortBy slotRefusal counted wrongLength slotOf
     lostSlotOf packetOf readOn readAll nextOf digits decimal field placeText carriedText unitLine idText noteLine refusedLine
     endLine letterOf slotSize sizeOf whole idsOf configOf freshSession queueWaits cursorWaits waitsBy callOf afterCall doneOf
     eventLine tallied closed drainedBy drainedOf textBy textOf captureOf

@@ -3,7 +3,7 @@ ghost use mathlib.Core.Path.{_≡_};
 ghost use Prim.Native.Nat.{min, _+_, _≤_};
 ghost use lib.ListN.{length};
 ghost use Rattle.capture.specs.Session.{isEnded};
-ghost use Rattle.capture.specs.Feed.{wantedOf, keptOf, Keeps, wholeSize, gatheredOf, takenOf, sourceOf, ranOf, goesBy, fedOf};
+ghost use Rattle.capture.specs.Feed.{wantedOf, keptOf, Keeps, wholeSize, gatheredOf, bytesTaken, sourceOf, ranOf, goesBy, fedOf};
 use crate::act::act;
 use crate::command::size;
 use crate::pour::has_room;
@@ -107,7 +107,7 @@ fn gather(command: &mut [u8], held: usize, block: &[u8], read: usize) -> Turn
 // A command that stands whole in the block is taken from there; else bytes are gathered behind those that are held.
 fn take_bytes(command: &mut [u8], held: usize, block: &[u8], read: usize) -> Turn
     requires { ⌜ Keeps (now command) held × (65538 ≤ length (now command)) × (read ≤ length (now block)) ⌝ }
-    ensures { λ r. ⌜ (r, now (command .exit)) ≡ takenOf (now (command .entry)) held (now (block .entry)) read ⌝ }
+    ensures { λ r. ⌜ (r, now (command .exit)) ≡ bytesTaken (now (command .entry)) held (now (block .entry)) read ⌝ }
 {
     if held != 0 {
         return gather(command, held, block, read);

@@ -12,7 +12,7 @@ use Rattle.tmcc.specs.declared.layout.Layout.{Layout}
 use Rattle.tmcc.specs.Layout.{blankLayout}
 use Rattle.tlv.specs.Run.{State as Slot-state, searching, run}
 use Rattle.reassembly.specs.declared.config.Config.{Config}
-use Rattle.reassembly.specs.Run.{Line, fresh}
+use Rattle.reassembly.specs.Run.{Lane, fresh}
 use Rattle.receiver.specs.declared.answer.Called.{Called}
 use Rattle.receiver.specs.declared.state.Frame.{Frame as ReceiverFrame}
 use Rattle.receiver.specs.declared.state.State.{State}
@@ -29,7 +29,7 @@ use Rattle.capture.specs.Session.{isEnded, busy, inPhase, withState, freshSessi
 use Rattle.capture.specs.Capture.{fits, callOf, afterCall, doneOf, drainedOf, reads}
 use Rattle.capture.specs.Drains.{still, drain-idle}
 use Rattle.capture.proofs.Texts.{whole-size, size-whole}
-use Rattle.broadcast.specs.Account.{account, events, linesAfter}
+use Rattle.broadcast.specs.Account.{account, events, lanesAfter}
 use Rattle.broadcast.specs.Drains.{Shown, strip, Drains}
 use Rattle.broadcast.specs.Calls.{Machine, Call, Did, did, numbered}
 use Rattle.broadcast.specs.Machines.{At}
@@ -170,7 +170,7 @@ mean-step f s p c b h = rw h
 
 -- what calls come to
 module _ (cfg : Config) where
-  abbrev Tells : Meaning → List Shown → List Placed → (ℕ → Line (List (ℕ × ℕ))) → Slot-state (ℕ × ℕ) → Layout → ℕ → ℕ → List Call → Type 0
+  abbrev Tells : Meaning → List Shown → List Placed → (ℕ → Lane (List (ℕ × ℕ))) → Slot-state (ℕ × ℕ) → Layout → ℕ → ℕ → List Call → Type 0
   Tells m es ps g tl l i n ks =
       (shownIn (m .events) ≡ es ++ map strip (events cfg g (run tl (arrivalsBy (cfg .stream) l i n ks))))
       × (endRefusal (m .ending) ≡ refusalsBy (cfg .stream) l i ks)
@@ -180,28 +180,28 @@ module _ (cfg : Config) where
   -- from a machine that waits for a command
   abbrev Again : ℕ → Type 0
   Again f =
-      (s : Session) (p c b : List ℕ) (es : List Shown) (st : State) (c' : List ℕ) (tl : Slot-state (ℕ × ℕ)) (g : ℕ → Line (List (ℕ × ℕ)))
+      (s : Session) (p c b : List ℕ) (es : List Shown) (st : State) (c' : List ℕ) (tl : Slot-state (ℕ × ℕ)) (g : ℕ → Lane (List (ℕ × ℕ)))
       (l : Layout) (i n : ℕ) → Settled s p c es st c' → At cfg (record { state = st; packet = p; collecting = c' }) tl g l i → i ≤ 120
       → s .tally .frames ≡ n % 2 ^ 64
       → Tells (meaningBy f s p c b) es (placedAt (s .tally .frames) (s .tally .slot) es) g tl l i n (commandCallsBy f b)
 
-  tells-none : (m : Meaning) (g : ℕ → Line (List (ℕ × ℕ))) (tl : Slot-state (ℕ × ℕ)) (l : Layout) (i n : ℕ) → m .events ≡ []
+  tells-none : (m : Meaning) (g : ℕ → Lane (List (ℕ × ℕ))) (tl : Slot-state (ℕ × ℕ)) (l : Layout) (i n : ℕ) → m .events ≡ []
       → endRefusal (m .ending) ≡ [] → m .tally .frames ≡ n % 2 ^ 64 → Tells m [] [] g tl l i n []
   unfolding arrivalsBy refusalsBy framesBy placedBy run events
   tells-none m g tl l i n e r f = (ap shownIn e, r, f, e)
 
-  tells-refused : (m : Meaning) (g : ℕ → Line (List (ℕ × ℕ))) (tl : Slot-state (ℕ × ℕ)) (l : Layout) (i n : ℕ) (k : Call) (ks : List Call)
+  tells-refused : (m : Meaning) (g : ℕ → Lane (List (ℕ × ℕ))) (tl : Slot-state (ℕ × ℕ)) (l : Layout) (i n : ℕ) (k : Call) (ks : List Call)
       → eqb (refusalAt (cfg .stream) l i k) 0 ≡ false → m .events ≡ [] → endRefusal (m .ending) ≡ refusalAt (cfg .stream) l i k ∷ []
       → m .tally .frames ≡ n % 2 ^ 64 → Tells m [] [] g tl l i n (k ∷ ks)
   unfolding arrivalsBy refusalsBy framesBy placedBy run events
   tells-refused m g tl l i n k ks z e r f = rw z (ap shownIn e, r, f, e)
 
-  tells-on : (m : Meaning) (g : ℕ → Line (List (ℕ × ℕ))) (tl : Slot-state (ℕ × ℕ)) (l : Layout) (i n : ℕ) (k : Call) (ks : List Call)
+  tells-on : (m : Meaning) (g : ℕ → Lane (List (ℕ × ℕ))) (tl : Slot-state (ℕ × ℕ)) (l : Layout) (i n : ℕ) (k : Call) (ks : List Call)
       (ma : Machine) (x : Steps cfg ma tl g k (arrivalBy l i n k) (layoutAfter (cfg .stream) l k) (slotAfter i k))
       → eqb (refusalAt (cfg .stream) l i k) 0 ≡ true
       → (fr sl : ℕ) → fr ≡ framesAfter n k % 2 ^ 64 → sl ≡ slotNumber i k
       → Tells m (map strip (events cfg g (x .does .events))) (placedAt fr sl (map strip (events cfg g (x .does .events))))
-      (linesAfter cfg g (x .does .events)) (x .does .state)
+      (lanesAfter cfg g (x .does .events)) (x .does .state)
       (layoutAfter (cfg .stream) l k) (slotAfter i k) (framesAfter n k) ks
       → Tells m [] [] g tl l i n (k ∷ ks)
   unfolding arrivalsBy refusalsBy framesBy placedBy
@@ -215,7 +215,7 @@ module _ (cfg : Config) where
       )
 
   -- one command
-  module _ (f : ℕ) (again : Again f) (st : State) (t : Tally) (p c b : List ℕ) (tl : Slot-state (ℕ × ℕ)) (g : ℕ → Line (List (ℕ × ℕ)))
+  module _ (f : ℕ) (again : Again f) (st : State) (t : Tally) (p c b : List ℕ) (tl : Slot-state (ℕ × ℕ)) (g : ℕ → Lane (List (ℕ × ℕ)))
       (l : Layout) (i n : ℕ) (a : At cfg (record { state = st; packet = p; collecting = c }) tl g l i) (most : i ≤ 120)
       (counts : t .frames ≡ n % 2 ^ 64) where
     x : List ℕ
@@ -299,7 +299,7 @@ module _ (cfg : Config) where
               subst
               (λ (y : Did).
               At cfg (record { state = j .state; packet = y .machine .packet; collecting = j .collecting }) (v .does .state)
-              (linesAfter cfg g (v .does .events)) (layoutAfter (cfg .stream) l (commandCall w x)) (slotAfter i (commandCall w x)))
+              (lanesAfter cfg g (v .does .events)) (layoutAfter (cfg .stream) l (commandCall w x)) (slotAfter i (commandCall w x)))
               did-then (j .at) in
               let queue : r .state .queue ≡ st .queue =
               sym (ap (λ (o : Called × List ℕ). o .0 .state .queue) e) ∙ call-queue w st p c x h in
@@ -314,7 +314,7 @@ module _ (cfg : Config) where
               (tells-on (onward f (session st t) p c b) g tl l i n (commandCall w x) (commandCallsBy f rest) ma v (rw (← number) z)
               (tallyAfter w (r .state) t .frames) (tallyAfter w (r .state) t .slot) fr sl
               (rw onward-then
-              (again then q c rest es (j .state) (j .collecting) (v .does .state) (linesAfter cfg g (v .does .events))
+              (again then q c rest es (j .state) (j .collecting) (v .does .state) (lanesAfter cfg g (v .does .events))
               (layoutAfter (cfg .stream) l (commandCall w x)) (slotAfter i (commandCall w x)) (framesAfter n (commandCall w x)) s at
               (v .most) fr)))
 
@@ -339,7 +339,7 @@ module _ (cfg : Config) where
             by false z = refused-told e w refl k (r .0) (r .1) refl z
             by true z = accepted-told e w refl k (r .0) (r .1) refl z
 
-  tells-front : (ge : List Placed) (m : Meaning) (es : List Shown) (ps : List Placed) (g : ℕ → Line (List (ℕ × ℕ)))
+  tells-front : (ge : List Placed) (m : Meaning) (es : List Shown) (ps : List Placed) (g : ℕ → Lane (List (ℕ × ℕ)))
       (tl : Slot-state (ℕ × ℕ)) (l : Layout) (i n : ℕ) (ks : List Call) → shownIn ge ≡ es → ge ≡ ps → Tells m [] [] g tl l i n ks
       → Tells (eventsFirst ge m) es ps g tl l i n ks
   tells-front ge m es ps g tl l i n ks h w o = (

@@ -11,7 +11,7 @@ use Rattle.receiver.specs.declared.state.State.{State}
 use Rattle.receiver.specs.State.{withOwed}
 use Rattle.receiver.specs.Slot.{shortBy}
 use Rattle.receiver.specs.Show.{showOf}
-use Rattle.receiver.specs.Next.{Out, nextOf, next-short, next-idle}
+use Rattle.receiver.specs.Next.{NextOut, nextOf, next-short, next-idle}
 use Rattle.lines.specs.Line.{isLine}
 use Rattle.capture.specs.declared.session.Phase.the-variants.{Reading}
 use Rattle.capture.specs.declared.session.Session.{Session}
@@ -113,13 +113,13 @@ module _ (p : List ℕ) where
       go : (b : Bool) → shortBy (st .config) (length p) (length c) ≡ b
           → (isLine (a .event) ≡ false) × (a .event ≡ Nothing → (a .state ≡ st) × (c' ≡ c))
       go true h =
-          let z : _≡_ {A = Out} (a, c') (record { event = Refused 22; state = st }, c) = sym e ∙ next-short st p c h in
-          let w : a .event ≡ Refused 22 = ap (λ (x : Out). x .0 .event) z in
+          let z : _≡_ {A = NextOut} (a, c') (record { event = Refused 22; state = st }, c) = sym e ∙ next-short st p c h in
+          let w : a .event ≡ Refused 22 = ap (λ (x : NextOut). x .0 .event) z in
           (rw w refl, λ q. let y : _≡_ {A = ℕ} 0 1 = cc in absurd (omega arith))
       go false h =
-          let z : _≡_ {A = Out} (a, c') (record { event = Nothing; state = st }, c) = sym e ∙ next-idle st p c h o in
-          let w : a .event ≡ Nothing = ap (λ (x : Out). x .0 .event) z in
-          (rw w refl, λ q. (ap (λ (x : Out). x .0 .state) z, ap (λ (x : Out). x .1) z))
+          let z : _≡_ {A = NextOut} (a, c') (record { event = Nothing; state = st }, c) = sym e ∙ next-idle st p c h o in
+          let w : a .event ≡ Nothing = ap (λ (x : NextOut). x .0 .event) z in
+          (rw w refl, λ q. (ap (λ (x : NextOut). x .0 .state) z, ap (λ (x : NextOut). x .1) z))
 
   idle-drains : {st st' : State} {c c' : List ℕ} {es : List Shown} → Drains p st c es st' c' → st .owed ≡ false → Idle es st st' c c'
   unfolding Idle

@@ -12,7 +12,7 @@ use Rattle.tmcc.proofs.Laws.{accepted as tmcc-accepted}
 use Rattle.tlv.specs.Run.{Arrival, searching}
 use Rattle.reassembly.specs.declared.config.Config.{Config}
 use Rattle.reassembly.specs.Run.{Content, fresh}
-use Rattle.receiver.specs.Start.{before, twiceBelow, twice, freshState, refusalOf as startRefusal, startOf}
+use Rattle.receiver.specs.Start.{before, twiceBelow, twice, freshState, startRefusal, startOf}
 use Rattle.mmtp.specs.Watch.{lookupOf, firstFrom}
 use Rattle.capture.specs.Command.{letterOf, idsOf, configOf}
 use Rattle.broadcast.specs.Account.{account}
@@ -21,7 +21,7 @@ use Rattle.broadcast.specs.Calls.{Made}
 use Rattle.broadcast.specs.Carried.{carriedUnits, intactUnits, contents}
 use Rattle.broadcast.specs.Frames.{Frame, Damage, none}
 use Rattle.broadcast.specs.Demand3.{NoNote, Reads, slotsOf, kept}
-use Rattle.broadcast.specs.Broadcast.{config, frames, Assumed, Memories, Left, slotLost, frameLost}
+use Rattle.broadcast.specs.Broadcast.{config, frames, Assumed, Memories, Remain, slotLost, frameLost}
 use Rattle.receiver.specs.Slot.{packet-short, right-length}
 use Rattle.broadcast.proofs.SlotCalls.{SlotsFit}
 use Rattle.broadcast.proofs.Reading.{FramesFit, frames-fit}
@@ -82,7 +82,7 @@ undamaged =
     (subst (λ (cfg : Config). Assumed cfg frames leastPacket leastCollecting (m .0)) (sym start-config) (m .1))
 
 -- what demand 3 leaves of the broadcast, by any reading of it
-leaves : (d : Damage) (us : List Content) → Left d us → (ys : List Made) → Reads config frames d leastPacket leastCollecting ys
+leaves : (d : Damage) (us : List Content) → Remain d us → (ys : List Made) → Reads config frames d leastPacket leastCollecting ys
     → contents (intactUnits (kept d) (carriedUnits config (slotsOf config frames))) ≡ us
 leaves d us h ys r =
     let m = broadcast-claims .1 leastPacket leastCollecting long in
@@ -93,7 +93,7 @@ leaves d us h ys r =
     (a .none-refused) (a .no-note) (a .few) in
     sym (c .damaged ys r .units-left) ∙ h leastPacket leastCollecting long ys r
 
-gives : (d : Damage) (us : List Content) → Left d us → (ys : List Made) → Reads config frames d leastPacket leastCollecting ys
+gives : (d : Damage) (us : List Content) → Remain d us → (ys : List Made) → Reads config frames d leastPacket leastCollecting ys
     → UnitsLeft d us
 gives d us h ys r =
     capture-loss startBytes frames d leastPacket leastCollecting leastPacket leastCollecting undamaged refl refl .damaged

@@ -14,7 +14,7 @@ use Rattle.receiver.specs.State.{withFrame, refused as refusedWith, accepted as
 use Rattle.receiver.specs.Start.{freshState}
 use Rattle.receiver.specs.Frame.{frameBusy, frameOf, lossOf, lostFrameOf, frame-short, frame-busy, frame-refused, frame-accepted}
 use Rattle.receiver.specs.Frame.{lost-frame-busy, lost-frame-accepted}
-use Rattle.receiver.specs.Slot.{shortBy, refusalOf, slot-refused, lost-refused}
+use Rattle.receiver.specs.Slot.{shortBy, slotRefusal, slot-refused, lost-refused}
 use Rattle.receiver.specs.Next.{next-short}
 use Rattle.capture.specs.declared.command.Letter.{Letter}
 use Rattle.capture.specs.declared.command.Letter.the-variants.{Start, Frame, LostFrame, Slot, LostSlot, Unknown}
@@ -160,15 +160,15 @@ module _ (p c : List ℕ) where
     unfolding frameBusy
     busy-is = rw o (or-false (ltb (st .frame .at) 120))
 
-    slot-number : refusalOf st (length p) (length c) ≡ cond (leb 120 (st .frame .at)) 20 22
-    unfolding refusalOf
+    slot-number : slotRefusal st (length p) (length c) ≡ cond (leb 120 (st .frame .at)) 20 22
+    unfolding slotRefusal
     slot-number = rw (o, h)
 
     some-number : (y : Bool) → _≡_ {A = ℕ} (cond y 20 22) 0 → ⊥
     some-number true e = omega arith
     some-number false e = omega arith
 
-    refuses-slot : refusalOf st (length p) (length c) ≡ 0 → ⊥
+    refuses-slot : slotRefusal st (length p) (length c) ≡ 0 → ⊥
     refuses-slot e = some-number (leb 120 (st .frame .at)) (sym slot-number ∙ e)
 
     -- F
@@ -234,13 +234,13 @@ module _ (p c : List ℕ) where
     -- S and L
     slot-says : letterOf (getD b 0 0) ≡ Slot → Goal Slot
     slot-says lw =
-        refuses Slot lw refl (refusedWith (refusalOf st (length p) (length c)) st)
+        refuses Slot lw refl (refusedWith (slotRefusal st (length p) (length c)) st)
         (unfold callOf in slot-refused st p c (drop 3 x) refuses-slot) (ne-eqb _ _ refuses-slot) (unfold shortAt in sym slot-number)
         (slot-frames _ _ n (commandCallsBy f rest) (drop 3 x))
 
     lost-says : letterOf (getD b 0 0) ≡ LostSlot → Goal LostSlot
     lost-says lw =
-        refuses LostSlot lw refl (refusedWith (refusalOf st (length p) (length c)) st)
+        refuses LostSlot lw refl (refusedWith (slotRefusal st (length p) (length c)) st)
         (unfold callOf in ap (λ (r : Called). (r, p)) (lost-refused st (length p) (length c) refuses-slot)) (ne-eqb _ _ refuses-slot)
         (unfold shortAt in sym slot-number) (lost-frames _ _ n (commandCallsBy f rest))
 

@@ -12,11 +12,11 @@ use Rattle.tmcc.specs.declared.layout.Layout.{Layout}
 use Rattle.tmcc.specs.Block.{decodeOf}
 use Rattle.tlv.specs.Run.{Arrival, State as Slot-state, Stepped, lost, step, run, stateAfter}
 use Rattle.reassembly.specs.declared.config.Config.{Config}
-use Rattle.reassembly.specs.Run.{Line}
+use Rattle.reassembly.specs.Run.{Lane}
 use Rattle.receiver.specs.declared.answer.Called.{Called}
 use Rattle.receiver.specs.declared.state.State.{State}
 use Rattle.receiver.specs.declared.state.Frame.{Frame as ReceiverFrame}
-use Rattle.receiver.specs.Slot.{counted, wrongLength, refusalOf, slotOf, lostSlotOf, slotTaken, lossTaken}
+use Rattle.receiver.specs.Slot.{counted, wrongLength, slotRefusal, slotOf, lostSlotOf, slotTaken, lossTaken}
 use Rattle.receiver.specs.Slot.{dueLength, dueOwn, duePointers, shortBy, long-enough}
 use Rattle.receiver.specs.Frame.{frameBusy, frameOf, lossOf, lostFrameOf}
 use Rattle.receiver.specs.Next.{next-idle}
@@ -27,7 +27,7 @@ use Rattle.capture.specs.declared.session.Phase.the-variants.{Reading}
 use Rattle.capture.specs.declared.session.Tally.{Tally}
 use Rattle.capture.specs.Session.{inFrame, inSlot}
 use Rattle.capture.specs.Capture.{fits, callOf}
-use Rattle.broadcast.specs.Account.{events, linesAfter}
+use Rattle.broadcast.specs.Account.{events, lanesAfter}
 use Rattle.broadcast.specs.Drains.{strip, stops}
 use Rattle.broadcast.specs.Calls.{Machine, Call, frame, lost-frame, slot, lost-slot, Did, did, numbered}
 use Rattle.broadcast.specs.Machines.{At}
@@ -62,7 +62,7 @@ call-queue Frame st p c b h =
     Kept r = r .state .queue ≡ st .queue
 call-queue LostFrame st p c b h = either (λ (r : Called). r .state .queue ≡ st .queue) (frameBusy st) refl refl
 call-queue Slot st p c b h =
-    either Kept (eqb (refusalOf st (length p) (length c)) 0)
+    either Kept (eqb (slotRefusal st (length p) (length c)) 0)
     (either Kept (wrongLength (dueLength st) (length (drop 3 b))) refl (go (dueOwn st))) refl
   where
     Kept : Called × List ℕ → Type 0
@@ -72,7 +72,7 @@ call-queue Slot st p c b h =
     go true = refl
     go false = refl
 call-queue LostSlot st p c b h =
-    either (λ (r : Called). r .state .queue ≡ st .queue) (eqb (refusalOf st (length p) (length c)) 0) (go (dueOwn st)) refl
+    either (λ (r : Called). r .state .queue ≡ st .queue) (eqb (slotRefusal st (length p) (length c)) 0) (go (dueOwn st)) refl
   where
     go : (own : Bool) → lossTaken own st .queue ≡ st .queue
     go true = refl
@@ -96,22 +96,22 @@ slot-counted Start st p c b h e t = let y : _≡_ {A = ℕ} 0 1 = cc in absurd (
 slot-counted Frame st p c b h e t = refl
 slot-counted LostFrame st p c b h e t = refl
 slot-counted Slot st p c b h e t =
-    go (eqb (refusalOf st (length p) (length c)) 0) (wrongLength (dueLength st) (length (drop 3 b))) (dueOwn st) refl e
+    go (eqb (slotRefusal st (length p) (length c)) 0) (wrongLength (dueLength st) (length (drop 3 b))) (dueOwn st) refl e
   where
-    go : (x y z : Bool) → eqb (refusalOf st (length p) (length c)) 0 ≡ x
+    go : (x y z : Bool) → eqb (slotRefusal st (length p) (length c)) 0 ≡ x
         → (cond x (cond y (refusedWith 23 st, p) (slotTaken z st p (drop 3 b) (duePointers st)))
-        (refusedWith (refusalOf st (length p) (length c)) st, p)) .0 .refusal ≡ 0
+        (refusedWith (slotRefusal st (length p) (length c)) st, p)) .0 .refusal ≡ 0
         → (cond x (cond y (refusedWith 23 st, p) (slotTaken z st p (drop 3 b) (duePointers st)))
-        (refusedWith (refusalOf st (length p) (length c)) st, p)) .0 .state .frame .at ≡ st .frame .at + 1
+        (refusedWith (slotRefusal st (length p) (length c)) st, p)) .0 .state .frame .at ≡ st .frame .at + 1
     go true true z q k = absurd (omega arith)
     go true false true q k = refl
     go true false false q k = refl
     go false y z q k = absurd (eqb-false _ 0 q k)
-slot-counted LostSlot st p c b h e t = go (eqb (refusalOf st (length p) (length c)) 0) (dueOwn st) refl e
+slot-counted LostSlot st p c b h e t = go (eqb (slotRefusal st (length p) (length c)) 0) (dueOwn st) refl e
   where
-    go : (x z : Bool) → eqb (refusalOf st (length p) (length c)) 0 ≡ x
-        → cond x (acceptedAs (lossTaken z st)) (refusedWith (refusalOf st (length p) (length c)) st) .refusal ≡ 0
-        → cond x (acceptedAs (lossTaken z st)) (refusedWith (refusalOf st (length p) (length c)) st) .state .frame .at ≡ st .frame .at + 1
+    go : (x z : Bool) → eqb (slotRefusal st (length p) (length c)) 0 ≡ x
+        → cond x (acceptedAs (lossTaken z st)) (refusedWith (slotRefusal st (length p) (length c)) st) .refusal ≡ 0
+        → cond x (acceptedAs (lossTaken z st)) (refusedWith (slotRefusal st (length p) (length c)) st) .state .frame .at ≡ st .frame .at + 1
     go true true q k = refl
     go true false q k = refl
     go false z q k = absurd (eqb-false _ 0 q k)
@@ -127,15 +127,15 @@ frame-counted Slot st b n t h e = e
 frame-counted LostSlot st b n t h e = e
 frame-counted Unknown st b n t h e = let y : _≡_ {A = ℕ} 0 1 = cc in absurd (omega arith)
 
-module _ (cfg : Config) (m : Machine) (tl : Slot-state (ℕ × ℕ)) (f : ℕ → Line (List (ℕ × ℕ))) (l : Layout) (s : ℕ)
+module _ (cfg : Config) (m : Machine) (tl : Slot-state (ℕ × ℕ)) (f : ℕ → Lane (List (ℕ × ℕ))) (l : Layout) (s : ℕ)
     (a : At cfg m tl f l s) where
   short-none : shortBy (m .state .config) (length (m .packet)) (length (m .collecting)) ≡ false
   short-none =
       let k = a .tracks in
       rw (k .config) (long-enough cfg (length (m .packet)) (length (m .collecting)) (k .packet-long) (k .collecting-long))
 
-  slot-refusal-is : refusalOf (m .state) (length (m .packet)) (length (m .collecting)) ≡ cond (leb 120 s) 20 0
-  unfolding refusalOf
+  slot-refusal-is : slotRefusal (m .state) (length (m .packet)) (length (m .collecting)) ≡ cond (leb 120 s) 20 0
+  unfolding slotRefusal
   slot-refusal-is = rw (short-none, a .frame, a .tracks .paid)
 
   busy-is : frameBusy (m .state) ≡ ltb s 120
@@ -210,10 +210,10 @@ module _ (cfg : Config) (m : Machine) (tl : Slot-state (ℕ × ℕ)) (f : ℕ �
   refusal-is Unknown b h = let y : _≡_ {A = ℕ} 0 1 = cc in absurd (omega arith)
 
 -- a call that is not refused, and what arrives by it
-pub record Steps (cfg : Config) (m : Machine) (tl : Slot-state (ℕ × ℕ)) (f : ℕ → Line (List (ℕ × ℕ))) (k : Call)
+pub record Steps (cfg : Config) (m : Machine) (tl : Slot-state (ℕ × ℕ)) (f : ℕ → Lane (List (ℕ × ℕ))) (k : Call)
     (arr : List (Arrival (ℕ × ℕ))) (l : Layout) (s : ℕ) : Type 0 where
   pub does : Stepped (ℕ × ℕ)
-  pub item : Item cfg m k (does .state) (linesAfter cfg f (does .events)) (map strip (events cfg f (does .events))) l s
+  pub item : Item cfg m k (does .state) (lanesAfter cfg f (does .events)) (map strip (events cfg f (does .events))) l s
   pub runs : (xs : List (Arrival (ℕ × ℕ))) → run tl (arr ++ xs) ≡ does .events ++ run (does .state) xs
   pub ran : run tl arr ≡ does .events
   pub ended : stateAfter tl arr ≡ does .state
@@ -253,7 +253,7 @@ due-block : (x : Bool) (n : ℕ) → cond x n 10 ≡ 0 → n ≡ 0
 due-block true n e = e
 due-block false n e = absurd (omega arith)
 
-module _ (cfg : Config) (m : Machine) (tl : Slot-state (ℕ × ℕ)) (f : ℕ → Line (List (ℕ × ℕ))) (l : Layout) (n : ℕ) where
+module _ (cfg : Config) (m : Machine) (tl : Slot-state (ℕ × ℕ)) (f : ℕ → Lane (List (ℕ × ℕ))) (l : Layout) (n : ℕ) where
   frame-item : (b : List ℕ) → At cfg m tl f l 120 → decodeOf b (cfg .stream) .refusal ≡ 0
       → Item cfg m (frame b) tl f [] (decodeOf b (cfg .stream) .layout) 0
   frame-item b a e =
@@ -272,7 +272,7 @@ module _ (cfg : Config) (m : Machine) (tl : Slot-state (ℕ × ℕ)) (f : ℕ �
 
   frame-step : (b : List ℕ) (s : ℕ) → At cfg m tl f l s → s ≤ 120 → refusalAt (cfg .stream) l s (frame b) ≡ 0
       → Steps cfg m tl f (frame b) [] (decodeOf b (cfg .stream) .layout) 0
-  unfolding refusalAt events linesAfter
+  unfolding refusalAt events lanesAfter
   frame-step b s a h e =
       let q = due-frame s _ h (due-block (eqb (length b) 1178) _ e) in
       record {

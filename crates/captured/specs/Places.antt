@@ -7,8 +7,8 @@ use lib.ListN.{length}
 use Rattle.tmcc.specs.declared.layout.Layout.{Layout}
 use Rattle.tlv.specs.Run.{State as Slot-state, run, stateAfter}
 use Rattle.reassembly.specs.declared.config.Config.{Config}
-use Rattle.reassembly.specs.Run.{Line}
-use Rattle.broadcast.specs.Account.{events, linesAfter}
+use Rattle.reassembly.specs.Run.{Lane}
+use Rattle.broadcast.specs.Account.{events, lanesAfter}
 use Rattle.broadcast.specs.Drains.{Shown, note, unit, strip}
 use Rattle.broadcast.specs.Calls.{Call, frame, lost-frame, slot, lost-slot, next}
 use Rattle.captured.specs.Events.{Placed}
@@ -33,12 +33,12 @@ slotNumber s lost-slot = s + 1
 slotNumber s next = 0
 
 -- call by call up to the first that is refused, n frames having begun; counts have 64 bits
-unfoldable pub placedBy : Config → (ℕ → Line (List (ℕ × ℕ))) → Slot-state (ℕ × ℕ) → Layout → ℕ → ℕ → List Call → List Placed
+unfoldable pub placedBy : Config → (ℕ → Lane (List (ℕ × ℕ))) → Slot-state (ℕ × ℕ) → Layout → ℕ → ℕ → List Call → List Placed
 placedBy cfg g tl l s n [] = []
 placedBy cfg g tl l s n (k ∷ ks) =
     let xs = run tl (arrivalBy l s n k) in
     let on : List Placed =
     placedAt (framesAfter n k % 2 ^ 64) (slotNumber s k) (map strip (events cfg g xs))
-    ++ placedBy cfg (linesAfter cfg g xs) (stateAfter tl (arrivalBy l s n k)) (layoutAfter (cfg .stream) l k) (slotAfter s k)
+    ++ placedBy cfg (lanesAfter cfg g xs) (stateAfter tl (arrivalBy l s n k)) (layoutAfter (cfg .stream) l k) (slotAfter s k)
     (framesAfter n k) ks in
     cond (eqb (refusalAt (cfg .stream) l s k) 0) on []

@@ -11,16 +11,16 @@ use Rattle.tlv.specs.Slot.{sound}
 use Rattle.tlv.specs.Run.{Slot, Labelled, searching, packets, Clean, intact}
 use Rattle.tlv.specs.Run.{run as events}
 use Rattle.cutter.specs.declared.slot.CutSlot.the-variants.{Cut, Refused}
-use Rattle.cutter.specs.Slot.{whole, unlisted, slotAt, pointed, slotOf}
+use Rattle.cutter.specs.Slot.{whole, unlisted, slotAt, pointed, slotCut}
 
 -- demand 1: a refused call returns a number of document 01's, 75 to 78, and the output is as it was
 abbrev pub CutRefused : Type 0
-CutRefused = (run : List ℕ) (l s : ℕ) (output : List ℕ) (n : ℕ) (after : List ℕ) → slotOf run l s output ≡ (Refused n, after)
+CutRefused = (run : List ℕ) (l s : ℕ) (output : List ℕ) (n : ℕ) (after : List ℕ) → slotCut run l s output ≡ (Refused n, after)
     → (75 ≤ n) × (n ≤ 78) × (after ≡ output)
 
 -- what a call that is not refused gives is a sound slot
 abbrev pub CutSound : Type 0
-CutSound = (run : List ℕ) (l s : ℕ) (output : List ℕ) (p : Pointers) (after : List ℕ) → slotOf run l s output ≡ (Cut p, after)
+CutSound = (run : List ℕ) (l s : ℕ) (output : List ℕ) (p : Pointers) (after : List ℕ) → slotCut run l s output ≡ (Cut p, after)
     → sound after (p .0) (p .1) ≡ true
 
 -- a run that fills n slots: "run a multiple of L", L in the table
@@ -32,7 +32,7 @@ pub record Fills (run : List ℕ) (l n : ℕ) : Type 0 where
 -- each of its slots is cut
 abbrev pub CutEach : Type 0
 CutEach = (run : List ℕ) (l n s : ℕ) (output : List ℕ) → Fills run l n → s < n → length output ≡ l
-    → slotOf run l s output ≡ (pointed (slotAt run l s), slotAt run l s .bytes)
+    → slotCut run l s output ≡ (pointed (slotAt run l s), slotAt run l s .bytes)
 
 -- n slots from slot s on
 abbrev pub slotsFrom : List ℕ → ℕ → ℕ → ℕ → List Slot

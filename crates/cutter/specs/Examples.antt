@@ -12,7 +12,7 @@ use Rattle.tlv.specs.Slot.{none}
 use Rattle.cutter.specs.declared.slot.CutSlot.{CutSlot}
 use Rattle.cutter.specs.declared.slot.CutSlot.the-variants.{Cut, Refused}
 use Rattle.cutter.specs.Pointers.{starts, ends, inSlot, topOf, lastOf}
-use Rattle.cutter.specs.Slot.{whole, unlisted, refusalOf, slotAt, slotOf}
+use Rattle.cutter.specs.Slot.{whole, unlisted, cutRefusal, slotAt, slotCut}
 use Rattle.cutter.specs.Claims.{Fills, AllShort}
 
 -- a packet whose length field has these two bytes
@@ -36,7 +36,7 @@ output n = replicate n 0xee
 
 -- the pointers of slot s
 abbrev cutOf : List ℕ → ℕ → CutSlot
-cutOf run s = slotOf run 1870 s (output 1870) .0
+cutOf run s = slotCut run 1870 s (output 1870) .0
 
 abbrev pointers : ℕ → ℕ → CutSlot
 pointers top last = Cut (record { 0 = top; 1 = last })
@@ -47,7 +47,7 @@ Examples =
     (cutOf shared 0 ≡ pointers 0 1868)
     -- a packet ends at L, and none starts
     × (cutOf shared 1 ≡ pointers none 1870)
-    × (slotOf shared 1870 1 (output 1870) .1 ≡ 0x07 ∷ 0x4c ∷ replicate 1868 0)
+    × (slotCut shared 1870 1 (output 1870) .1 ≡ 0x07 ∷ 0x4c ∷ replicate 1868 0)
     -- no packet ends; one ends where the first starts, and that one goes on; it ends at L
     × (cutOf long 0 ≡ pointers 0 none)
     × (cutOf long 1 ≡ pointers 30 30)
@@ -59,12 +59,12 @@ Examples =
 pub examples : Examples
 examples =
     unfold be allBelow dataBytes goodFirst total complete marked cutBy cut in
-    unfold starts ends inSlot topOf lastOf whole unlisted refusalOf slotAt slotOf in
+    unfold starts ends inSlot topOf lastOf whole unlisted cutRefusal slotAt slotCut in
     (refl, refl, refl, refl, refl, refl, refl, refl)
 
 -- a refused call whose output has k bytes: the number, and the output as it was
 abbrev Refuses : ℕ → List ℕ → ℕ → ℕ → ℕ → Type 0
-Refuses n run l s k = slotOf run l s (output k) ≡ (Refused n, output k)
+Refuses n run l s k = slotCut run l s (output k) ≡ (Refused n, output k)
 
 abbrev pub Refusals : Type 0
 Refusals =
@@ -88,7 +88,7 @@ Refusals =
 pub refusals : Refusals
 refusals =
     unfold be allBelow dataBytes goodFirst total complete marked cutBy cut in
-    unfold whole unlisted refusalOf slotOf in
+    unfold whole unlisted cutRefusal slotCut in
     (refl, refl, refl, refl, refl, refl, refl, refl, refl, refl, refl, refl)
 
 -- a run that the claims speak of

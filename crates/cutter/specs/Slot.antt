@@ -30,8 +30,8 @@ unfoldable pub unlisted : ℕ → Bool
 unlisted l = allBelow (otherRate l) 11
 
 -- the first refusal of a call whose output has n bytes; 0 for none
-unfoldable pub refusalOf : List ℕ → ℕ → ℕ → ℕ → ℕ
-refusalOf run l s n =
+unfoldable pub cutRefusal : List ℕ → ℕ → ℕ → ℕ → ℕ
+cutRefusal run l s n =
     cond (whole run)
     (cond (unlisted l) 76
     (cond (ltb (length run) ((s + 1) * l)) 77
@@ -47,9 +47,9 @@ pointed x = Cut (record { 0 = x .top; 1 = x .last })
 
 -- what the call answers, and what the output then is: the slot's bytes, or as it was;
 -- "Refused calls return the number only"
-unfoldable pub slotOf : List ℕ → ℕ → ℕ → List ℕ → CutSlot × List ℕ
-slotOf run l s output =
-    let r = refusalOf run l s (length output) in
+unfoldable pub slotCut : List ℕ → ℕ → ℕ → List ℕ → CutSlot × List ℕ
+slotCut run l s output =
+    let r = cutRefusal run l s (length output) in
     cond (eqb r 0) (pointed (slotAt run l s), slotAt run l s .bytes) (Refused r, output)
 
 -- document 01's number for each case; 0 for a slot that was cut
@@ -59,22 +59,22 @@ numberOf (Refused n) = n
 
 -- by cases: the four refusals
 module _ (run : List ℕ) (l s n : ℕ) where
-  pub refused-run : whole run ≡ false → refusalOf run l s n ≡ 75
-  unfolding refusalOf
+  pub refused-run : whole run ≡ false → cutRefusal run l s n ≡ 75
+  unfolding cutRefusal
   refused-run w = rw w
 
   module _ (w : whole run ≡ true) where
-    pub refused-length : unlisted l ≡ true → refusalOf run l s n ≡ 76
-    unfolding refusalOf
+    pub refused-length : unlisted l ≡ true → cutRefusal run l s n ≡ 76
+    unfolding cutRefusal
     refused-length u = rw (w, u)
 
     module _ (u : unlisted l ≡ false) where
-      pub refused-past : length run < (s + 1) * l → refusalOf run l s n ≡ 77
-      unfolding refusalOf
+      pub refused-past : length run < (s + 1) * l → cutRefusal run l s n ≡ 77
+      unfolding cutRefusal
       refused-past h = rw (w, u, lt-ltb _ _ h)
 
-      pub refused-output : (s + 1) * l ≤ length run → (n ≡ l → ⊥) → refusalOf run l s n ≡ 78
-      unfolding refusalOf
+      pub refused-output : (s + 1) * l ≤ length run → (n ≡ l → ⊥) → cutRefusal run l s n ≡ 78
+      unfolding cutRefusal
       refused-output h e = rw (w, u, le-ltb _ _ h, ne-eqb _ _ e)
 
 -- what an accepted call keeps to
@@ -84,8 +84,8 @@ pub record Accepted (run : List ℕ) (l s n : ℕ) : Type 0 where
   pub within : (s + 1) * l ≤ length run
   pub fits : n ≡ l
 
-pub accepts : (run : List ℕ) (l s n : ℕ) → Accepted run l s n → refusalOf run l s n ≡ 0
-unfolding refusalOf
+pub accepts : (run : List ℕ) (l s n : ℕ) → Accepted run l s n → cutRefusal run l s n ≡ 0
+unfolding cutRefusal
 accepts run l s n a = rw (a .packets, a .listed, le-ltb _ _ (a .within), eq-eqb _ _ (a .fits))
 
 -- and what no refusal says
@@ -97,8 +97,8 @@ else-zero : (t : Bool) (a b : ℕ) → cond t a b ≡ 0 → (a ≡ 0 → ⊥) �
 else-zero true a b e n = absurd (n e)
 else-zero false a b e n = (refl, e)
 
-pub accepted : (run : List ℕ) (l s n : ℕ) → refusalOf run l s n ≡ 0 → Accepted run l s n
-unfolding refusalOf
+pub accepted : (run : List ℕ) (l s n : ℕ) → cutRefusal run l s n ≡ 0 → Accepted run l s n
+unfolding cutRefusal
 accepted run l s n e =
     let p = if-zero (whole run) _ _ e (λ z. omega arith) in
     let q = else-zero (unlisted l) _ _ (p .1) (λ z. omega arith) in
@@ -107,8 +107,8 @@ accepted run l s n e =
     record { packets = p .0; listed = q .0; within = ltb-false _ _ (r .0); fits = eqb-true _ _ (t .0) }
 
 -- a refusal is 75 to 78
-pub refusal-bounds : (run : List ℕ) (l s n : ℕ) → let r = refusalOf run l s n in (r ≡ 0 → ⊥) → (75 ≤ r) × (r ≤ 78)
-unfolding refusalOf
+pub refusal-bounds : (run : List ℕ) (l s n : ℕ) → let r = cutRefusal run l s n in (r ≡ 0 → ⊥) → (75 ≤ r) × (r ≤ 78)
+unfolding cutRefusal
 refusal-bounds run l s n =
     let P : ℕ → Type 0 = λ r. (r ≡ 0 → ⊥) → (75 ≤ r) × (r ≤ 78) in
     either P (whole run)
@@ -123,12 +123,12 @@ slot-within run l s n a = rw (add-one, suc-mul) at (a .within)
 
 -- the call, refused and accepted
 module _ (run : List ℕ) (l s : ℕ) (output : List ℕ) where
-  pub slot-refused : (refusalOf run l s (length output) ≡ 0 → ⊥)
-      → slotOf run l s output ≡ (Refused (refusalOf run l s (length output)), output)
-  unfolding slotOf
+  pub slot-refused : (cutRefusal run l s (length output) ≡ 0 → ⊥)
+      → slotCut run l s output ≡ (Refused (cutRefusal run l s (length output)), output)
+  unfolding slotCut
   slot-refused n = rw (ne-eqb _ _ n)
 
-  pub slot-cut : refusalOf run l s (length output) ≡ 0
-      → slotOf run l s output ≡ (pointed (slotAt run l s), slotAt run l s .bytes)
-  unfolding slotOf
+  pub slot-cut : cutRefusal run l s (length output) ≡ 0
+      → slotCut run l s output ≡ (pointed (slotAt run l s), slotAt run l s .bytes)
+  unfolding slotCut
   slot-cut z = rw z

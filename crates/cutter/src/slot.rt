@@ -1,7 +1,7 @@
 // A slot cut from a run, or the first refusal that the call meets.
 ghost use mathlib.Core.Path.{_≡_};
 ghost use lib.ListN.{length};
-ghost use Rattle.cutter.specs.Slot.{whole, unlisted, refusalOf, slotOf};
+ghost use Rattle.cutter.specs.Slot.{whole, unlisted, cutRefusal, slotCut};
 use tlv::packet::Walked;
 use tmcc::layout::Pointers;
 
@@ -39,7 +39,7 @@ fn is_unlisted(l: usize) -> bool
 
 // Refusals 75 to 78; 0 for none. `n` is the output's length.
 fn refusal(run: &[u8], l: usize, s: usize, n: usize) -> u8
-    ensures { λ r. ⌜ r ≡ refusalOf (now (run .entry)) l s n ⌝ }
+    ensures { λ r. ⌜ r ≡ cutRefusal (now (run .entry)) l s n ⌝ }
 {
     if !is_whole(run) {
         return 75;
@@ -59,7 +59,7 @@ fn refusal(run: &[u8], l: usize, s: usize, n: usize) -> u8
 
 // Copies slot `s` of `l` bytes of a run to `output`, and gives its pointers.
 pub fn cut_slot(run: &[u8], l: usize, s: usize, output: &mut [u8]) -> CutSlot
-    ensures { λ r. ⌜ (r, now (output .exit)) ≡ slotOf (now (run .entry)) l s (now (output .entry)) ⌝ }
+    ensures { λ r. ⌜ (r, now (output .exit)) ≡ slotCut (now (run .entry)) l s (now (output .entry)) ⌝ }
 {
     let refusal = refusal(run, l, s, output.len());
     if refusal != 0 {

@@ -22,7 +22,7 @@ use Rattle.delivery.specs.declared.cursor.Found.{Found}
 use Rattle.delivery.specs.declared.cursor.Found.the-variants.{Event, Packet, Tail, Done}
 use Rattle.delivery.specs.declared.cursor.Advanced.{Advanced}
 use Rattle.delivery.specs.declared.cursor.Turn.{Turn}
-use Rattle.delivery.specs.Queue.{takenOf}
+use Rattle.delivery.specs.Queue.{eventTaken}
 use native.Mathlib.Omega.{arith}
 use Rattle.tlv.specs.Cuts.{complete-fits}
 use Rattle.mmtp.specs.Cases.{chose}
@@ -66,7 +66,7 @@ turnBy (Unit g) q cur p = record { found = Event (Unit g); queue = q; cursor = c
 turnBy (Refused n) q cur p = record { found = Event (Refused n); queue = q; cursor = cur }
 
 unfoldable pub turnOf : Queue → Cursor → List ℕ → Turn
-turnOf q cur p = let t = takenOf q p in turnBy (t .event) (t .queue) cur p
+turnOf q cur p = let t = eventTaken q p in turnBy (t .event) (t .queue) cur p
 
 -- the queue gave an event
 abbrev pub isEvent : AnEvent → Bool
@@ -104,15 +104,15 @@ turned-on (Unit g) q cur p h = cc
 turned-on (Refused n) q cur p h = cc
 
 module _ (q : Queue) (cur : Cursor) (p : List ℕ) where
-  pub turn-event : isEvent (takenOf q p .event) ≡ true
-      → turnOf q cur p ≡ record { found = Event (takenOf q p .event); queue = takenOf q p .queue; cursor = cur }
+  pub turn-event : isEvent (eventTaken q p .event) ≡ true
+      → turnOf q cur p ≡ record { found = Event (eventTaken q p .event); queue = eventTaken q p .queue; cursor = cur }
   unfolding turnOf
-  turn-event h = turned-event (takenOf q p .event) (takenOf q p .queue) cur p h
+  turn-event h = turned-event (eventTaken q p .event) (eventTaken q p .queue) cur p h
 
-  pub turn-on : isEvent (takenOf q p .event) ≡ false
-      → turnOf q cur p ≡ record { found = advancedOf cur p .found; queue = takenOf q p .queue; cursor = advancedOf cur p .cursor }
+  pub turn-on : isEvent (eventTaken q p .event) ≡ false
+      → turnOf q cur p ≡ record { found = advancedOf cur p .found; queue = eventTaken q p .queue; cursor = advancedOf cur p .cursor }
   unfolding turnOf
-  turn-on h = turned-on (takenOf q p .event) (takenOf q p .queue) cur p h
+  turn-on h = turned-on (eventTaken q p .event) (eventTaken q p .queue) cur p h
 
 -- what the cursor comes to, case by case
 module _ (cur : Cursor) (p : List ℕ) where
@@ -211,9 +211,9 @@ module _ (cur : Cursor) (p : List ℕ) where
 
 pub turn-less : (q : Queue) (cur : Cursor) (p : List ℕ) → goesOn (turnOf q cur p .found) ≡ true
     → left (turnOf q cur p .cursor) < left cur
-turn-less q cur p = go (isEvent (takenOf q p .event)) refl
+turn-less q cur p = go (isEvent (eventTaken q p .event)) refl
   where
-    go : (b : Bool) → isEvent (takenOf q p .event) ≡ b → goesOn (turnOf q cur p .found) ≡ true
+    go : (b : Bool) → isEvent (eventTaken q p .event) ≡ b → goesOn (turnOf q cur p .found) ≡ true
         → left (turnOf q cur p .cursor) < left cur
     go true e = rw (turn-event q cur p e) (λ g. absurd (true≢false (sym g)))
     go false e = rw (turn-on q cur p e) (advanced-less cur p)

@@ -51,8 +51,8 @@ giveBy (One g) q p = record { event = Unit g; queue = giving q NoUnit }
 giveBy (Many a) q p = manyBy (nextUnit a p) a q
 
 -- the event, Nothing where the queue is empty, and the queue after it
-unfoldable pub takenOf : Queue → List ℕ → Taken
-takenOf q p =
+unfoldable pub eventTaken : Queue → List ℕ → Taken
+eventTaken q p =
     cond (eqb (q .note) 0)
     (cond (q .over)
     (record {
@@ -69,37 +69,37 @@ takenOf q p =
 
 module _ (q : Queue) (p : List ℕ) where
   pub taken-note : (q .note ≡ 0 → ⊥)
-      → takenOf q p
+      → eventTaken q p
       ≡ record {
         event = Note (q .note) (q .«packet_id»);
         queue = record { note = 0; over = q .over; «packet_id» = q .«packet_id»; give = q .give };
       }
-  unfolding takenOf
+  unfolding eventTaken
   taken-note h = chosen-not (eqb (q .note) 0) _ _ (ne-eqb (q .note) 0 h)
 
   pub taken-over : q .note ≡ 0 → q .over ≡ true
-      → takenOf q p
+      → eventTaken q p
       ≡ record {
         event = Note (numberOf AboveLimit) (q .«packet_id»);
         queue = record { note = 0; over = false; «packet_id» = q .«packet_id»; give = q .give };
       }
-  unfolding takenOf
+  unfolding eventTaken
   taken-over h o = chosen (eqb (q .note) 0) _ _ (eq-eqb (q .note) 0 h) ∙ chosen (q .over) _ _ o
 
-  pub taken-give : q .note ≡ 0 → q .over ≡ false → takenOf q p ≡ giveBy (q .give) q p
-  unfolding takenOf
+  pub taken-give : q .note ≡ 0 → q .over ≡ false → eventTaken q p ≡ giveBy (q .give) q p
+  unfolding eventTaken
   taken-give h o = chosen (eqb (q .note) 0) _ _ (eq-eqb (q .note) 0 h) ∙ chosen-not (q .over) _ _ o
 
   -- its units, one at a time
   module _ (h : q .note ≡ 0) (o : q .over ≡ false) where
-    taken-by : (g : Give) → q .give ≡ g → takenOf q p ≡ giveBy g q p
+    taken-by : (g : Give) → q .give ≡ g → eventTaken q p ≡ giveBy g q p
     taken-by g e = taken-give h o ∙ ap (λ (x : Give). giveBy x q p) e
 
-    pub taken-nothing : q .give ≡ NoUnit → takenOf q p ≡ record { event = Nothing; queue = q }
+    pub taken-nothing : q .give ≡ NoUnit → eventTaken q p ≡ record { event = Nothing; queue = q }
     taken-nothing e = taken-by NoUnit e
 
-    pub taken-one : (g : Given) → q .give ≡ One g → takenOf q p ≡ record { event = Unit g; queue = giving q NoUnit }
+    pub taken-one : (g : Given) → q .give ≡ One g → eventTaken q p ≡ record { event = Unit g; queue = giving q NoUnit }
     taken-one g e = taken-by (One g) e
 
-    pub taken-many : (a : Aggregate) → q .give ≡ Many a → (s : Step) → nextUnit a p ≡ s → takenOf q p ≡ manyBy s a q
+    pub taken-many : (a : Aggregate) → q .give ≡ Many a → (s : Step) → nextUnit a p ≡ s → eventTaken q p ≡ manyBy s a q
     taken-many a e s n = taken-by (Many a) e ∙ ap (λ (x : Step). manyBy x a q) n

@@ -1,6 +1,6 @@
 // What next has yet to give of a packet, one event at a time.
 ghost use mathlib.Core.Path.{_≡_};
-ghost use Rattle.delivery.specs.Queue.{finished, giveBy, takenOf};
+ghost use Rattle.delivery.specs.Queue.{finished, giveBy, eventTaken};
 use crate::event::Event;
 use crate::event::Given;
 use crate::packet::Located;
@@ -107,7 +107,7 @@ fn take_unit(q: Queue, memory: &[u8]) -> Taken
 }
 
 pub fn take(q: Queue, memory: &[u8]) -> Taken
-    ensures { λ r. ⌜ r ≡ takenOf q (now (memory .entry)) ⌝ }
+    ensures { λ r. ⌜ r ≡ eventTaken q (now (memory .entry)) ⌝ }
 {
     if q.note != 0 {
         let queue = Queue { note: 0, ..q };

@@ -19,7 +19,7 @@ use Rattle.intake.specs.Slot.{
   resumedMem,
   copied,
   resumedOf,
-  takenOf,
+  intakeOf,
 }
 
 -- packet memory: 9 up to the slot's place, where the bytes of the slot before stand, and one byte more
@@ -34,7 +34,7 @@ pub record After : Type 0 where
 
 abbrev after : Held → List ℕ → List ℕ → ℕ → ℕ → After
 after h b d top last =
-    let r = takenOf h (memory b) d (record { 0 = top; 1 = last }) in
+    let r = intakeOf h (memory b) d (record { 0 = top; 1 = last }) in
     record { note = r .0 .cursor .note; front = take 7 (r .1); slot = drop 16384 (r .1) }
 
 abbrev nines : List ℕ
@@ -68,5 +68,5 @@ Examples =
 
 pub examples : Examples
 unfolding be goodFirst total complete marked cutBy cut endFrom lastPointer sound endWithin endBeyond heldTotal heldEnd continuationOf
-    partOf pasted cursorFrom resumedAs movedMem continuedMem resumedMem copied resumedOf takenOf
+    partOf pasted cursorFrom resumedAs movedMem continuedMem resumedMem copied resumedOf intakeOf
 examples = (refl, refl, refl, refl, refl, refl)

@@ -78,23 +78,23 @@ unfoldable pub copied : List ℕ → List ℕ → List ℕ
 copied p d = pasted p slotArea d (length d)
 
 -- what the slot leaves, and packet memory
-abbrev pub Out : Type 0
-Out = Intake × List ℕ
+abbrev pub IntakeOut : Type 0
+IntakeOut = Intake × List ℕ
 
-abbrev pub resumedBy : Continuation → Held → List ℕ → List ℕ → Pointers → Out
+abbrev pub resumedBy : Continuation → Held → List ℕ → List ℕ → Pointers → IntakeOut
 resumedBy k h p d t = (resumedAs k (heldLen h p) (t .0) (length d), resumedMem k h p d)
 
-unfoldable pub resumedOf : Held → List ℕ → List ℕ → Pointers → Out
+unfoldable pub resumedOf : Held → List ℕ → List ℕ → Pointers → IntakeOut
 resumedOf h p d t = resumedBy (continuationOf (heldBytes h p) d (t .0) (t .1)) h p d t
 
 -- an own live slot by whether it is sound and whether bytes are held, before it is copied
-abbrev pub takenBy : Bool → Bool → Held → List ℕ → List ℕ → Pointers → Out
+abbrev pub takenBy : Bool → Bool → Held → List ℕ → List ℕ → Pointers → IntakeOut
 takenBy false on h p d t = (record { held = searching; cursor = noted (numberOf Unsound) }, p)
 takenBy true false h p d t = (readingFrom 0 0 (t .0) (length d), p)
 takenBy true true h p d t = resumedOf h p d t
 
-unfoldable pub takenOf : Held → List ℕ → List ℕ → Pointers → Out
-takenOf h p d t =
+unfoldable pub intakeOf : Held → List ℕ → List ℕ → Pointers → IntakeOut
+intakeOf h p d t =
     let r = takenBy (sound d (t .0) (t .1)) (h .on) h p d t in
     (r .0, copied (r .1) d)
 
@@ -105,17 +105,17 @@ lostOf h = record { held = searching; cursor = noted (cond (h .on) (numberOf Los
 -- Laws: an own live slot that is unsound, one while searching, and one with bytes held.
 module _ (h : Held) (p d : List ℕ) (t : Pointers) where
   pub taken-unsound : sound d (t .0) (t .1) ≡ false
-      → takenOf h p d t ≡ (record { held = searching; cursor = noted (numberOf Unsound) }, copied p d)
-  unfolding takenOf
+      → intakeOf h p d t ≡ (record { held = searching; cursor = noted (numberOf Unsound) }, copied p d)
+  unfolding intakeOf
   taken-unsound s = rw s
 
   module _ (s : sound d (t .0) (t .1) ≡ true) where
-    pub taken-searching : h .on ≡ false → takenOf h p d t ≡ (readingFrom 0 0 (t .0) (length d), copied p d)
-    unfolding takenOf
+    pub taken-searching : h .on ≡ false → intakeOf h p d t ≡ (readingFrom 0 0 (t .0) (length d), copied p d)
+    unfolding intakeOf
     taken-searching o = rw (s, o)
 
-    pub taken-held : h .on ≡ true → takenOf h p d t ≡ (resumedOf h p d t .0, copied (resumedOf h p d t .1) d)
-    unfolding takenOf
+    pub taken-held : h .on ≡ true → intakeOf h p d t ≡ (resumedOf h p d t .0, copied (resumedOf h p d t .1) d)
+    unfolding intakeOf
     taken-held o = rw (s, o)
 
   pub resumed : (k : Continuation) → continuationOf (heldBytes h p) d (t .0) (t .1) ≡ k

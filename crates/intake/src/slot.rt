@@ -8,7 +8,7 @@ ghost use Rattle.tlv.specs.Notes.{numberOf};
 ghost use Rattle.tlv.specs.Slot.{sound};
 ghost use Rattle.tlv.specs.Held.{continuationOf};
 ghost use Rattle.intake.specs.Slot.{searching, holding, noted, cursorFrom, readingFrom};
-ghost use Rattle.intake.specs.Slot.{heldBytes, heldLen, movedMem, continuedMem, resumedAs, resumedOf, takenOf, lostOf};
+ghost use Rattle.intake.specs.Slot.{heldBytes, heldLen, movedMem, continuedMem, resumedAs, resumedOf, intakeOf, lostOf};
 use crate::held::Cursor;
 use crate::held::Held;
 use crate::held::Intake;
@@ -175,7 +175,7 @@ fn resume_slot(held: Held, packet: &mut [u8], bytes: &[u8], t: Pointers) -> Inta
 // An own live slot with its bytes.
 pub fn take(held: Held, packet: &mut [u8], bytes: &[u8], t: Pointers) -> Intake
     requires { ⌜ (21433 ≤ length (now packet)) × (length (now bytes) ≤ 5049) ⌝ }
-    ensures { λ r. ⌜ (r, now (packet .exit)) ≡ takenOf held (now (packet .entry)) (now (bytes .entry)) t ⌝ }
+    ensures { λ r. ⌜ (r, now (packet .exit)) ≡ intakeOf held (now (packet .entry)) (now (bytes .entry)) t ⌝ }
 {
     if !tlv::slot::is_sound(bytes, t.0, t.1) {
         wire::memory::copy_at(packet, SLOT_AREA, bytes);

@@ -22,7 +22,7 @@ use Rattle.capture.specs.Command.{letterOf, sizeOf, whole}
 use Rattle.capture.specs.Session.{isReading, isEnded, busy, inPhase, withState}
 use Rattle.capture.specs.Capture.{fits, reads, afterCall, callOf, settled, doneOf, closed, tallied}
 use Rattle.capture.proofs.Texts.{whole-size}
-use Rattle.linked.specs.Calls.{callComes, nextCall, stepOf}
+use Rattle.linked.specs.Calls.{callComes, nextCall, oneCall}
 use Rattle.linked.specs.Claims.{CallRefused}
 
 -- next is owed to a receiver that was started
@@ -105,10 +105,10 @@ module _ (s : Session) (p c b : List ℕ) where
   done-refused Ended h l i f e = absurd (true≢false (sym f))
 
 pub call-refused : CallRefused
-unfolding stepOf callComes
+unfolding oneCall callComes
 call-refused s p c b h e = go (busy s) refl
   where
-    go : (t : Bool) → busy s ≡ t → let r = stepOf s p c b in
+    go : (t : Bool) → busy s ≡ t → let r = oneCall s p c b in
         (r .1 ≡ p) × (r .2 ≡ c) × (s .phase ≡ Reading → r .0 .session ≡ inPhase s Ended)
     go true o =
         let n = next-refused s p c (busy-reading s o) (nextOf (s .state) p c .0 .event) refl (rw o at e) in

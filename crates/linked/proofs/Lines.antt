@@ -17,7 +17,7 @@ use Rattle.capture.specs.Capture.{fits, doneOf, Drained, behind, eventLine, tal
 use Rattle.capture.specs.Drains.{drain-step, drain-idle}
 use Rattle.capture.proofs.Pours.{closed-idle}
 use Rattle.capture.proofs.Texts.{whole-size, onFrom, text-step, text-behind}
-use Rattle.linked.specs.Calls.{callComes, nextCall, stepOf}
+use Rattle.linked.specs.Calls.{callComes, nextCall, oneCall}
 use Rattle.linked.specs.Claims.{lineOf, CallClaim, EndClaim}
 
 -- a line closes nothing
@@ -59,10 +59,10 @@ text-idle : (s : Session) (p c b : List ℕ) → busy s ≡ false → let k = do
 text-idle s p c b o = text-step s p c b ∙ ap (λ (d : Drained). onFrom d p b textOf) (drain-idle s p c o)
 
 pub call-claim : CallClaim
-unfolding lineOf stepOf callComes
+unfolding lineOf oneCall callComes
 call-claim s p c b h = go (busy s) refl
   where
-    go : (t : Bool) → busy s ≡ t → let r = stepOf s p c b in
+    go : (t : Bool) → busy s ≡ t → let r = oneCall s p c b in
         textOf s p c b ≡ lineOf s p c b ++ textOf (r .0 .session) (r .1) (r .2) (drop (r .0 .read) b)
     go true o =
         let r = nextCall s p c in

@@ -10,7 +10,7 @@ use Rattle.packer.specs.Packer.{packOf}
 use Rattle.packer.proofs.Refusals.{pack-refused}
 use Rattle.cutter.specs.declared.slot.CutSlot.{CutSlot}
 use Rattle.cutter.specs.declared.slot.CutSlot.the-variants.{Cut, Refused as NotCut}
-use Rattle.cutter.specs.Slot.{slotOf}
+use Rattle.cutter.specs.Slot.{slotCut}
 use Rattle.cutter.proofs.Refusals.{cut-refused}
 use Rattle.linked.specs.Answers.{packCall, cutCall, pack-taken, pack-left, cut-taken, cut-left}
 use Rattle.linked.specs.Claims.{PackCallRefused, CutCallRefused, PackCallTaken, CutCallTaken}
@@ -40,9 +40,9 @@ pack-call-taken u cid sn m s out len len' out' e = go (packOf u cid sn m s out .
         absurd (omega arith)
 
 pub cut-call-refused : CutCallRefused
-cut-call-refused run l s output top last n top' last' output' e z = go (slotOf run l s output .0) (slotOf run l s output .1) refl
+cut-call-refused run l s output top last n top' last' output' e z = go (slotCut run l s output .0) (slotCut run l s output .1) refl
   where
-    go : (a : CutSlot) (b : List ℕ) → (a, b) ≡ slotOf run l s output
+    go : (a : CutSlot) (b : List ℕ) → (a, b) ≡ slotCut run l s output
         → (75 ≤ n) × (n ≤ 78) × (top' ≡ top) × (last' ≡ last) × (output' ≡ output)
     go (Cut p) b q = absurd (z (ap (λ x. x .0) (sym e ∙ cut-taken run l s output top last b p q)))
     go (NotCut k) b q =
@@ -52,10 +52,10 @@ cut-call-refused run l s output top last n top' last' output' e z = go (slotOf r
         (omega arith, omega arith, ap (λ x. x .1) g, ap (λ x. x .2) g, ap (λ x. x .3) g ∙ r .2)
 
 pub cut-call-taken : CutCallTaken
-cut-call-taken run l s output top last top' last' output' e = go (slotOf run l s output .0) (slotOf run l s output .1) refl
+cut-call-taken run l s output top last top' last' output' e = go (slotCut run l s output .0) (slotCut run l s output .1) refl
   where
-    go : (a : CutSlot) (b : List ℕ) → (a, b) ≡ slotOf run l s output
-        → slotOf run l s output ≡ (Cut (record { 0 = top'; 1 = last' }), output')
+    go : (a : CutSlot) (b : List ℕ) → (a, b) ≡ slotCut run l s output
+        → slotCut run l s output ≡ (Cut (record { 0 = top'; 1 = last' }), output')
     go (Cut p) b q =
         let g = sym e ∙ cut-taken run l s output top last b p q in
         sym q ∙ rw (ap (λ x. x .1) g, ap (λ x. x .2) g, ap (λ x. x .3) g)

@@ -11,13 +11,13 @@ use Rattle.lines.specs.Text.{wrote, written-end, written-length, written-more}
 use Rattle.lines.specs.Line.{end-67}
 use Rattle.capture.specs.Capture.{lastLine, captureOf}
 use Rattle.capture.specs.Steps.{roomy, finish-full, finish-line}
-use Rattle.capture.specs.Feed.{Left}
+use Rattle.capture.specs.Feed.{FeedLeaves}
 use Rattle.capture.specs.Plays.{fed, first, AtOnce}
 use Rattle.capture.proofs.Whole.{whole-claim}
 use Rattle.linked.specs.Text.{textCall, TextBegins, finishedBy}
 use Rattle.linked.specs.Claims.{TextCallClaim}
 
-module _ (lines out : List ℕ) (f : Left) (a : AtOnce lines out f) where
+module _ (lines out : List ℕ) (f : FeedLeaves) (a : AtOnce lines out f) where
   abbrev last : List ℕ
   last = lastLine (f .0 .session .tally)
 

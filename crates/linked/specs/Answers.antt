@@ -10,7 +10,7 @@ use Rattle.packer.specs.declared.pack.Packed.the-variants.{Written, Refused as 
 use Rattle.packer.specs.Packer.{packOf, numberOf as packNumber}
 use Rattle.cutter.specs.declared.slot.CutSlot.{CutSlot}
 use Rattle.cutter.specs.declared.slot.CutSlot.the-variants.{Cut, Refused as NotCut}
-use Rattle.cutter.specs.Slot.{slotOf, numberOf as cutNumber}
+use Rattle.cutter.specs.Slot.{slotCut, numberOf as cutNumber}
 
 -- movie fragment, sample, offset, priority, dependency, item
 abbrev pub fieldsOf : ℕ → ℕ → ℕ → ℕ → ℕ → ℕ → Fields
@@ -53,7 +53,7 @@ packCall u cid sn m s out len =
 -- the cutter's call: document 01's number, or 0; `top` and `last`; the output
 unfoldable pub cutCall : List ℕ → ℕ → ℕ → List ℕ → ℕ → ℕ → ℕ × ℕ × ℕ × List ℕ
 cutCall run l s output top last =
-    let r = slotOf run l s output in
+    let r = slotCut run l s output in
     let p = pointersLeft (r .0) (record { 0 = top; 1 = last }) in
     (cutNumber (r .0), p .0, p .1, r .1)
 
@@ -68,12 +68,12 @@ module _ (u : Unit) (cid sn m : ℕ) (s out : List ℕ) (len n : ℕ) (after : L
   pack-left e = rw (← e)
 
 module _ (run : List ℕ) (l s : ℕ) (output : List ℕ) (top last : ℕ) (after : List ℕ) where
-  pub cut-taken : (p : Pointers) → (Cut p, after) ≡ slotOf run l s output
+  pub cut-taken : (p : Pointers) → (Cut p, after) ≡ slotCut run l s output
       → cutCall run l s output top last ≡ (0, p .0, p .1, after)
   unfolding cutCall
   cut-taken p e = rw (← e)
 
-  pub cut-left : (n : ℕ) → (NotCut n, after) ≡ slotOf run l s output
+  pub cut-left : (n : ℕ) → (NotCut n, after) ≡ slotCut run l s output
       → cutCall run l s output top last ≡ (n, top, last, after)
   unfolding cutCall
   cut-left n e = rw (← e)

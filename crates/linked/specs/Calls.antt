@@ -33,14 +33,14 @@ nextCall s p c =
     (closed (withTally t (tallied (t .tally) (r .0 .event))) (r .0 .event), r .1)
 
 -- what a call leaves: the session and the bytes that it reads, and both memories
-abbrev pub Left : Type 0
-Left = Step × List ℕ × List ℕ
+abbrev pub CallLeaves : Type 0
+CallLeaves = Step × List ℕ × List ℕ
 
 -- one call: of next where it is owed, else that of the command that comes first
-unfoldable pub stepOf : Session → List ℕ → List ℕ → List ℕ → Left
-stepOf s p c b =
-    let next : Left = (let r = nextCall s p c in (record { session = r .0; read = 0 }, p, r .1)) in
-    let command : Left =
+unfoldable pub oneCall : Session → List ℕ → List ℕ → List ℕ → CallLeaves
+oneCall s p c b =
+    let next : CallLeaves = (let r = nextCall s p c in (record { session = r .0; read = 0 }, p, r .1)) in
+    let command : CallLeaves =
     (let k = doneOf s p c (take (sizeOf b) b) in (record { session = k .session; read = sizeOf b }, k .packet, c)) in
     cond (busy s) next command
 
@@ -56,7 +56,7 @@ unfoldable pub callsBy : ℕ → Session → List ℕ → List ℕ → List ℕ 
 callsBy zero s p c b = (0, p, c)
 callsBy (suc n) s p c b =
     let more : Made =
-    (let r = stepOf s p c b in after 1 (callsBy n (r .0 .session) (r .1) (r .2) (drop (r .0 .read) b))) in
+    (let r = oneCall s p c b in after 1 (callsBy n (r .0 .session) (r .1) (r .2) (drop (r .0 .read) b))) in
     cond (callComes s b) more (0, p, c)
 
 -- of a whole capture b
@@ -98,27 +98,27 @@ module _ (s : Session) (b : List ℕ) where
 
 module _ (s : Session) (p c b : List ℕ) where
   pub step-next : busy s ≡ true → (t : Session) (d : List ℕ) → (t, d) ≡ nextCall s p c
-      → stepOf s p c b ≡ (record { session = t; read = 0 }, p, d)
-  unfolding stepOf
+      → oneCall s p c b ≡ (record { session = t; read = 0 }, p, d)
+  unfolding oneCall
   step-next o t d e = rw (o, ← e)
 
   module _ (o : busy s ≡ false) where
     -- by what the function of the capture leaves, whatever line it writes
     pub step-command : (out : List ℕ) (at : ℕ) (r : Progress) (q w : List ℕ)
         → (r, q, w) ≡ actedOf s p c (take (sizeOf b) b) out at
-        → stepOf s p c b ≡ (record { session = r .session; read = sizeOf b }, q, c)
-    unfolding stepOf actedOf
+        → oneCall s p c b ≡ (record { session = r .session; read = sizeOf b }, q, c)
+    unfolding oneCall actedOf
     step-command out at r q w e =
         let f = ap (λ (x : Progress × List ℕ × List ℕ). x .0 .session) e in
         let g = ap (λ (x : Progress × List ℕ × List ℕ). x .1) e in
         rw (o, f, g)
 
   -- it reads no more than there is
-  pub step-within : callComes s b ≡ true → stepOf s p c b .0 .read ≤ length b
-  unfolding stepOf
+  pub step-within : callComes s b ≡ true → oneCall s p c b .0 .read ≤ length b
+  unfolding oneCall
   step-within h = go (busy s) refl
     where
-      go : (t : Bool) → busy s ≡ t → stepOf s p c b .0 .read ≤ length b
+      go : (t : Bool) → busy s ≡ t → oneCall s p c b .0 .read ≤ length b
       go true o = rw o (omega arith)
       go false o = rw o (comes-whole s b o h .1)
 
@@ -131,7 +131,7 @@ module _ (s : Session) (p c b : List ℕ) where
   unfolding callsBy
   calls-zero = refl
 
-  pub calls-more : (n : ℕ) → callComes s b ≡ true → (r : Step) (q d : List ℕ) → (r, q, d) ≡ stepOf s p c b
+  pub calls-more : (n : ℕ) → callComes s b ≡ true → (r : Step) (q d : List ℕ) → (r, q, d) ≡ oneCall s p c b
       → callsBy (suc n) s p c b ≡ after 1 (callsBy n (r .session) q d (drop (r .read) b))
   unfolding callsBy
   calls-more n h r q d e = rw (h, ← e)
@@ -148,7 +148,7 @@ after-one k m = ap (λ (n : ℕ). (n, m .1, m .2)) (omega arith)
 
 -- of n calls k were made and the bytes up to `at` read: one more
 pub calls-turn : (s : Session) (p c b : List ℕ) (n k at : ℕ) → k < n → callComes s (drop at b) ≡ true → (r : Step) (q d : List ℕ)
-    → (r, q, d) ≡ stepOf s p c (drop at b)
+    → (r, q, d) ≡ oneCall s p c (drop at b)
     → after k (callsBy (n - k) s p c (drop at b)) ≡ after (k + 1) (callsBy (n - (k + 1)) (r .session) q d (drop (at + r .read) b))
 calls-turn s p c b n k at h y r q d e =
     let l : n - k ≡ suc (n - (k + 1)) = omega arith in

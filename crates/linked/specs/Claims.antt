@@ -15,9 +15,9 @@ use Rattle.reassembly.specs.declared.unit.Unit.{Unit}
 use Rattle.packer.specs.declared.pack.Packed.the-variants.{Written}
 use Rattle.packer.specs.Packer.{packOf}
 use Rattle.cutter.specs.declared.slot.CutSlot.the-variants.{Cut}
-use Rattle.cutter.specs.Slot.{slotOf}
+use Rattle.cutter.specs.Slot.{slotCut}
 use Rattle.linked.specs.Answers.{packCall, cutCall}
-use Rattle.linked.specs.Calls.{callComes, stepOf}
+use Rattle.linked.specs.Calls.{callComes, oneCall}
 use Rattle.linked.specs.Text.{textCall, TextBegins}
 
 -- the line that a call writes, if it writes one
@@ -27,7 +27,7 @@ lineOf s p c b =
 
 -- a capture's lines from a session on: those of the next call, and then those from what it leaves
 abbrev pub CallClaim : Type 0
-CallClaim = (s : Session) (p c b : List ℕ) → callComes s b ≡ true → let r = stepOf s p c b in
+CallClaim = (s : Session) (p c b : List ℕ) → callComes s b ≡ true → let r = oneCall s p c b in
     textOf s p c b ≡ lineOf s p c b ++ textOf (r .0 .session) (r .1) (r .2) (drop (r .0 .read) b)
 
 -- where no call comes, the last line is left
@@ -37,7 +37,7 @@ EndClaim = (s : Session) (p c b : List ℕ) → callComes s b ≡ false → text
 -- demand 1: a call of a capture that is refused ends the reading, and leaves both memories as they were; so it leaves the session
 -- of a receiver that was started, its state among it. (Before C there is no receiver, and a refused start makes none.)
 abbrev pub CallRefused : Type 0
-CallRefused = (s : Session) (p c b : List ℕ) → callComes s b ≡ true → let r = stepOf s p c b in
+CallRefused = (s : Session) (p c b : List ℕ) → callComes s b ≡ true → let r = oneCall s p c b in
     r .0 .session .phase ≡ Ended
     → (r .1 ≡ p) × (r .2 ≡ c) × (s .phase ≡ Reading → r .0 .session ≡ inPhase s Ended)
 
@@ -61,7 +61,7 @@ PackCallTaken = (u : Unit) (cid sn m : ℕ) (s out : List ℕ) (len : ℕ) (len'
 abbrev pub CutCallTaken : Type 0
 CutCallTaken = (run : List ℕ) (l s : ℕ) (output : List ℕ) (top last : ℕ) (top' last' : ℕ) (output' : List ℕ)
     → cutCall run l s output top last ≡ (0, top', last', output')
-    → slotOf run l s output ≡ (Cut (record { 0 = top'; 1 = last' }), output')
+    → slotCut run l s output ≡ (Cut (record { 0 = top'; 1 = last' }), output')
 
 -- the text of a capture in memory: what `tlv_capture` prints, as far as it has room
 abbrev pub TextCallClaim : Type 0

@@ -10,16 +10,16 @@ use Rattle.tmcc.specs.Layout.{blankLayout}
 use Rattle.mmtp.specs.Watch.{firstFrom, lookupOf}
 use Rattle.reassembly.specs.Channel.{unheard}
 use Rattle.intake.specs.Slot.{lostOf}
-use Rattle.delivery.specs.Queue.{takenOf}
+use Rattle.delivery.specs.Queue.{eventTaken}
 use Rattle.delivery.specs.Cursor.{turnOf, advancedOf, slotAdvanced, left}
-use Rattle.receiver.specs.Start.{before, twiceBelow, twice, freshState, refusalOf as startRefusal, startOf}
+use Rattle.receiver.specs.Start.{before, twiceBelow, twice, freshState, startRefusal, startOf}
 use Rattle.receiver.specs.Frame.{frameBusy, lossOf, lostFrameOf}
-use Rattle.receiver.specs.Slot.{shortBy, refusalOf, slotOf}
+use Rattle.receiver.specs.Slot.{shortBy, slotRefusal, slotOf}
 use Rattle.receiver.specs.Next.{packetOf, readOn, readAll, nextOf}
 use Rattle.capture.specs.Command.{letterOf, slotSize, sizeOf, whole, idsOf, configOf}
 use Rattle.capture.specs.Session.{freshSession}
 use Rattle.capture.specs.Capture.{callOf, afterCall, doneOf, tallied, closed}
-use Rattle.linked.specs.Calls.{callComes, nextCall, stepOf, callsBy, callsOf}
+use Rattle.linked.specs.Calls.{callComes, nextCall, oneCall, callsBy, callsOf}
 
 -- C with stream 0x0102, CID 2, n ids, the first of them 17, and R = 16; X; S with two bytes
 abbrev start : ℕ → List ℕ
@@ -51,8 +51,8 @@ Counts =
     × (made 21433 (start 1 ++ lostFrame ++ lostFrame) 4 ≡ 4) × (made 21433 (start 1) 0 ≡ 0)
 
 counts : Counts
-unfolding be partOf tab allBelow blankLayout firstFrom lookupOf unheard lostOf takenOf turnOf advancedOf slotAdvanced left before
-    twiceBelow twice freshState startRefusal startOf frameBusy lossOf lostFrameOf shortBy refusalOf slotOf packetOf readOn readAll
+unfolding be partOf tab allBelow blankLayout firstFrom lookupOf unheard lostOf eventTaken turnOf advancedOf slotAdvanced left before
+    twiceBelow twice freshState startRefusal startOf frameBusy lossOf lostFrameOf shortBy slotRefusal slotOf packetOf readOn readAll
     nextOf letterOf slotSize sizeOf whole idsOf configOf freshSession callOf afterCall doneOf tallied closed callComes nextCall
-    stepOf callsBy callsOf
+    oneCall callsBy callsOf
 counts = (refl, refl, refl, refl, refl, refl, refl, refl, refl, refl, refl)

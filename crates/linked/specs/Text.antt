@@ -6,14 +6,14 @@ use lib.ListN.{length, replicate}
 use Rattle.lines.specs.Text.{wrote}
 use Rattle.capture.specs.Session.{freshSession}
 use Rattle.capture.specs.Steps.{finishedOf}
-use Rattle.capture.specs.Feed.{Left, fedOf}
+use Rattle.capture.specs.Feed.{FeedLeaves, fedOf}
 
 -- how many bytes of text, both memories, and the memory of the text
 abbrev pub Written : Type 0
 Written = ℕ × List ℕ × List ℕ × List ℕ
 
 -- after the capture was fed, the last line
-abbrev pub finishedBy : Left → Written
+abbrev pub finishedBy : FeedLeaves → Written
 finishedBy f = let w = finishedOf (f .0 .session .tally) (f .4) (f .0 .written) in (w .0, f .2, f .3, w .1)
 
 -- the capture b is fed at once, with a command memory that is blank
@@ -31,7 +31,7 @@ pub record TextBegins (text out : List ℕ) (r : ℕ) (o : List ℕ) : Type 0 wh
 
 -- Laws.
 
-pub text-call : (b p c out : List ℕ) (f : Left) → f ≡ fedOf freshSession 0 (replicate 65538 0) b p c out
+pub text-call : (b p c out : List ℕ) (f : FeedLeaves) → f ≡ fedOf freshSession 0 (replicate 65538 0) b p c out
     → (n : ℕ) (o : List ℕ) → (n, o) ≡ finishedOf (f .0 .session .tally) (f .4) (f .0 .written)
     → (n, f .2, f .3, o) ≡ textCall b p c out
 unfolding textCall

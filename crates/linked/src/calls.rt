@@ -1,7 +1,7 @@
 // The calls that a capture makes, one at a time.
 ghost use mathlib.Core.Path.{_≡_};
 ghost use mathlib.Core.Bool.{true};
-ghost use Rattle.linked.specs.Calls.{callComes, nextCall, stepOf, callsOf};
+ghost use Rattle.linked.specs.Calls.{callComes, nextCall, oneCall, callsOf};
 use capture::act::act;
 use capture::act::is_fit;
 use capture::command::letter_of;
@@ -57,7 +57,7 @@ fn call_next(session: Session, packet: &[u8], collecting: &mut [u8]) -> Session
 fn make_call(session: Session, b: &[u8], packet: &mut [u8], collecting: &mut [u8]) -> Step
     requires { ⌜ callComes session (now b) ≡ true ⌝ }
     ensures { λ r. ⌜ (r, now (packet .exit), now (collecting .exit))
-        ≡ stepOf session (now (packet .entry)) (now (collecting .entry)) (now (b .entry)) ⌝ }
+        ≡ oneCall session (now (packet .entry)) (now (collecting .entry)) (now (b .entry)) ⌝ }
 {
     if is_busy(session) {
         let session = call_next(session, packet, collecting);

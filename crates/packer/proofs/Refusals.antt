@@ -15,7 +15,7 @@ use Rattle.reassembly.specs.declared.unit.Unit.{Unit}
 use Rattle.packer.specs.declared.pack.Packed.{Packed}
 use Rattle.packer.specs.declared.pack.Packed.the-variants.{Written, Refused}
 use Rattle.packer.specs.Pieces.{pieces, countOf, maxPieces}
-use Rattle.packer.specs.Packer.{run, packed, refusalOf, packOf}
+use Rattle.packer.specs.Packer.{run, packed, packRefusal, packOf}
 use Rattle.packer.specs.Writing.{headBytes}
 use Rattle.packer.specs.Refusals.{PackRefused}
 use Rattle.packer.proofs.Pieces.{count-pieces, covers}
@@ -35,34 +35,34 @@ module _ (u : Unit) (cid sn m : ℕ) (s out : List ℕ) where
   total = countOf m (length s) * headBytes (u .kind) + length s
 
   pub size-zero : m ≡ 0 → packOf u cid sn m s out ≡ (Refused 70, out)
-  unfolding packOf refusalOf
+  unfolding packOf packRefusal
   size-zero e = rw (eq-eqb _ _ e)
 
   module _ (a : m ≡ 0 → ⊥) where
     pub size-large : 1400 < m → packOf u cid sn m s out ≡ (Refused 70, out)
-    unfolding packOf refusalOf
+    unfolding packOf packRefusal
     size-large h = rw (ne-eqb _ _ a, lt-ltb _ _ h)
 
     module _ (b : m ≤ 1400) where
       pub kind-large : 4 < u .kind → packOf u cid sn m s out ≡ (Refused 71, out)
-      unfolding packOf refusalOf
+      unfolding packOf packRefusal
       kind-large h = rw (ne-eqb _ _ a, le-ltb _ _ b, lt-ltb _ _ h)
 
       module _ (k : u .kind ≤ 4) where
         pub too-many : 256 < countOf m (length s) → packOf u cid sn m s out ≡ (Refused 72, out)
-        unfolding packOf refusalOf
+        unfolding packOf packRefusal
         too-many h = rw (ne-eqb _ _ a, le-ltb _ _ b, le-ltb _ _ k, count-pieces m s, lt-ltb _ _ h)
 
         module _ (n : countOf m (length s) ≤ 256) where
           pub output-short : length out < total
               → packOf u cid sn m s out ≡ (Refused 73, out)
-          unfolding packOf refusalOf
+          unfolding packOf packRefusal
           output-short h =
               rw (ne-eqb _ _ a, le-ltb _ _ b, le-ltb _ _ k, length-run u cid sn m s, count-pieces m s, le-ltb _ _ n, lt-ltb _ _ h)
 
           module _ (l : total ≤ length out) where
             pub cid-large : 4095 < cid → packOf u cid sn m s out ≡ (Refused 74, out)
-            unfolding packOf refusalOf
+            unfolding packOf packRefusal
             cid-large h =
                 rw (
                   ne-eqb _ _ a,
@@ -78,7 +78,7 @@ module _ (u : Unit) (cid sn m : ℕ) (s out : List ℕ) where
             pub accepted : cid ≤ 4095
                 → packOf u cid sn m s out
                 ≡ (Written total, packed (run u cid sn m s) out)
-            unfolding packOf refusalOf
+            unfolding packOf packRefusal
             accepted h =
                 rw (
                   ne-eqb _ _ a,
@@ -92,8 +92,8 @@ module _ (u : Unit) (cid sn m : ℕ) (s out : List ℕ) where
                 )
 
 -- a refusal is 70 to 74
-refusal-bounds : (m kind n len room cid : ℕ) → let r = refusalOf m kind n len room cid in (r ≡ 0 → ⊥) → (70 ≤ r) × (r ≤ 74)
-unfolding refusalOf
+refusal-bounds : (m kind n len room cid : ℕ) → let r = packRefusal m kind n len room cid in (r ≡ 0 → ⊥) → (70 ≤ r) × (r ≤ 74)
+unfolding packRefusal
 refusal-bounds m kind n len room cid =
     let P : ℕ → Type 0 = λ r. (r ≡ 0 → ⊥) → (70 ≤ r) × (r ≤ 74) in
     either P (eqb m 0) (λ z. (omega arith, omega arith))
@@ -105,7 +105,7 @@ refusal-bounds m kind n len room cid =
 
 module _ (u : Unit) (cid sn m : ℕ) (s out : List ℕ) where
   abbrev refusal : ℕ
-  refusal = refusalOf m (u .kind) (length (pieces m s)) (length (run u cid sn m s)) (length out) cid
+  refusal = packRefusal m (u .kind) (length (pieces m s)) (length (run u cid sn m s)) (length out) cid
 
   -- by the test for a refusal
   abbrev answer : Bool → Packed × List ℕ

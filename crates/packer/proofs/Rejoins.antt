@@ -15,16 +15,16 @@ use Rattle.reassembly.specs.declared.channel.Channel.{Channel}
 use Rattle.reassembly.specs.Unit.{agrees}
 use Rattle.reassembly.specs.Channel.{nextPsn, heard, gap}
 use Rattle.reassembly.specs.Join.{interrupted, begun, counterFollows, grown, extended, followed, acted, joinOf, notesOf, longer}
-use Rattle.reassembly.specs.Run.{Input, Event, Line, Stepped, labelled, step, withLine, run, linesAfter}
+use Rattle.reassembly.specs.Run.{Input, Event, Lane, Stepped, labelled, step, withLane, run, lanesAfter}
 use Rattle.packer.specs.Pieces.{pieces, indicatorAt, counterAt, withPsn, pieceAt}
 use Rattle.packer.specs.Packer.{joined}
 use Rattle.packer.specs.Rejoins.{inputAt, inputsFrom, inputs, Ready, unheard, idle, Rejoined, UnitRejoined}
 use Rattle.packer.proofs.Pieces.{pieces-some, joined-pieces}
 
 -- one step without a note, by the indicator
-module _ {A : Type 0} (limit : ℕ) (l : Line A) (a : A) (x : Input) (g : gap (l .channel) (x .piece .unit .psn) ≡ false) where
+module _ {A : Type 0} (limit : ℕ) (l : Lane A) (a : A) (x : Input) (g : gap (l .channel) (x .piece .unit .psn) ≡ false) where
   step-whole : x .piece .indicator ≡ Whole → interrupted (l .channel .phase) ≡ 0 → step limit l a x ≡ record {
-    line = record {
+    lane = record {
       channel = record { phase = Idle; last = x .piece .unit .psn; current = l .channel .current };
       labels = l .labels;
       bytes = l .bytes;
@@ -36,7 +36,7 @@ module _ {A : Type 0} (limit : ℕ) (l : Line A) (a : A) (x : Input) (g : gap (l
 
   step-first : x .piece .indicator ≡ First → interrupted (l .channel .phase) ≡ 0 → x .piece .len ≤ limit
       → step limit l a x ≡ record {
-        line = record {
+        lane = record {
           channel = record {
             phase = Open;
             last = x .piece .unit .psn;
@@ -54,7 +54,7 @@ module _ {A : Type 0} (limit : ℕ) (l : Line A) (a : A) (x : Input) (g : gap (l
       (c : counterFollows (l .channel .current .counter) (x .piece .counter) ≡ true)
       (h : l .channel .current .len + x .piece .len ≤ limit) where
     step-middle : x .piece .indicator ≡ Middle → step limit l a x ≡ record {
-      line = record {
+      lane = record {
         channel = record { phase = Open; last = x .piece .unit .psn; current = longer (l .channel) (x .piece) };
         labels = l .labels ++ (a ∷ []);
         bytes = l .bytes ++ x .bytes;
@@ -65,7 +65,7 @@ module _ {A : Type 0} (limit : ℕ) (l : Line A) (a : A) (x : Input) (g : gap (l
     step-middle i = rw (g, i, o, w, c, le-ltb _ _ h)
 
     step-last : x .piece .indicator ≡ Last → step limit l a x ≡ record {
-      line = record {
+      lane = record {
         channel = record { phase = Idle; last = x .piece .unit .psn; current = longer (l .channel) (x .piece) };
         labels = l .labels ++ (a ∷ []);
         bytes = l .bytes ++ x .bytes;
@@ -127,8 +127,8 @@ tagged-back [] = refl
 tagged-back (x ∷ xs) = rw (tagged-back xs)
 
 module _ {A : Type 0} (limit place n : ℕ) (u : Unit) where
-  -- the line after packet `i`, the unit still open
-  abbrev openAfter : ℕ → List A → List ℕ → Line A
+  -- the lane after packet `i`, the unit still open
+  abbrev openAfter : ℕ → List A → List ℕ → Lane A
   openAfter i ls bs =
       record {
         channel = record {
@@ -141,45 +141,45 @@ module _ {A : Type 0} (limit place n : ℕ) (u : Unit) where
       }
 
   -- a packet in front
-  with-place : (f : ℕ → Line A) (l : Line A) → withLine limit f place l place ≡ l
+  with-place : (f : ℕ → Lane A) (l : Lane A) → withLane limit f place l place ≡ l
   with-place f l = rw (eq-eqb place place refl)
 
-  with-other : (f : ℕ → Line A) (l : Line A) (k : ℕ) → (k ≡ place → ⊥) → withLine limit f place l k ≡ f k
+  with-other : (f : ℕ → Lane A) (l : Lane A) (k : ℕ) → (k ≡ place → ⊥) → withLane limit f place l k ≡ f k
   with-other f l k h = rw (ne-eqb k place h)
 
-  abbrev Runs : (ℕ → Line A) → List (A × Input) → Stepped A → List (A × Input) → Type 0
+  abbrev Runs : (ℕ → Lane A) → List (A × Input) → Stepped A → List (A × Input) → Type 0
   Runs f ys w xs =
-      (run limit f ys ≡ w .events ++ run limit (withLine limit f place (w .line)) xs)
-      × (linesAfter limit f ys ≡ linesAfter limit (withLine limit f place (w .line)) xs)
+      (run limit f ys ≡ w .events ++ run limit (withLane limit f place (w .lane)) xs)
+      × (lanesAfter limit f ys ≡ lanesAfter limit (withLane limit f place (w .lane)) xs)
 
-  runs : (f : ℕ → Line A) (a : A) (i : ℕ) (s : List ℕ) (xs : List (A × Input)) (l : Line A) (w : Stepped A)
+  runs : (f : ℕ → Lane A) (a : A) (i : ℕ) (s : List ℕ) (xs : List (A × Input)) (l : Lane A) (w : Stepped A)
       → f place ≡ l → step limit l a (inputAt u place n i s) ≡ w → Runs f ((a, inputAt u place n i s) ∷ xs) w xs
-  unfolding run linesAfter
+  unfolding run lanesAfter
   runs f a i s xs l w e h = (rw (e, h), rw (e, h))
 
   -- without an event
-  in-front : (f : ℕ → Line A) (ys xs : List (A × Input)) (o : Line A) (ls : List A) (bs : List ℕ)
-      → Runs f ys (record { line = o; events = [] }) xs → Rejoined limit place u n ls bs (withLine limit f place o) xs
+  in-front : (f : ℕ → Lane A) (ys xs : List (A × Input)) (o : Lane A) (ls : List A) (bs : List ℕ)
+      → Runs f ys (record { lane = o; events = [] }) xs → Rejoined limit place u n ls bs (withLane limit f place o) xs
       → Rejoined limit place u n ls bs f ys
   in-front f ys xs o ls bs z y =
       record {
         events = z .0 ∙ y .events;
-        phase = ap (λ (v : ℕ → Line A). v place .channel .phase) (z .1) ∙ y .phase;
-        last = ap (λ (v : ℕ → Line A). v place .channel .last) (z .1) ∙ y .last;
-        others = λ k m. ap (λ (v : ℕ → Line A). v k) (z .1) ∙ y .others k m ∙ with-other f o k m;
+        phase = ap (λ (v : ℕ → Lane A). v place .channel .phase) (z .1) ∙ y .phase;
+        last = ap (λ (v : ℕ → Lane A). v place .channel .last) (z .1) ∙ y .last;
+        others = λ k m. ap (λ (v : ℕ → Lane A). v k) (z .1) ∙ y .others k m ∙ with-other f o k m;
       }
 
   -- with the one unit, and nothing behind it
-  at-end : (f : ℕ → Line A) (ys : List (A × Input)) (o : Line A) (ls : List A) (bs : List ℕ)
-      → Runs f ys (record { line = o; events = labelled ls (record { info = u; bytes = bs }) ∷ [] }) [] → o .channel .phase ≡ Idle
+  at-end : (f : ℕ → Lane A) (ys : List (A × Input)) (o : Lane A) (ls : List A) (bs : List ℕ)
+      → Runs f ys (record { lane = o; events = labelled ls (record { info = u; bytes = bs }) ∷ [] }) [] → o .channel .phase ≡ Idle
       → o .channel .last ≡ withPsn u (n - 1) .psn → Rejoined limit place u n ls bs f ys
-  unfolding run linesAfter
+  unfolding run lanesAfter
   at-end f ys o ls bs z p q =
       record {
         events = z .0;
-        phase = ap (λ (v : ℕ → Line A). v place .channel .phase) (z .1) ∙ rw (with-place f o) p;
-        last = ap (λ (v : ℕ → Line A). v place .channel .last) (z .1) ∙ rw (with-place f o) q;
-        others = λ k m. ap (λ (v : ℕ → Line A). v k) (z .1) ∙ with-other f o k m;
+        phase = ap (λ (v : ℕ → Lane A). v place .channel .phase) (z .1) ∙ rw (with-place f o) p;
+        last = ap (λ (v : ℕ → Lane A). v place .channel .last) (z .1) ∙ rw (with-place f o) q;
+        others = λ k m. ap (λ (v : ℕ → Lane A). v k) (z .1) ∙ with-other f o k m;
       }
 
   -- the steps behind packet `i`
@@ -192,15 +192,15 @@ module _ {A : Type 0} (limit place n : ℕ) (u : Unit) where
 
     middle-on : i + 1 + 1 < n
         → step limit (openAfter i ls bs) a (inputAt u place n (i + 1) s)
-        ≡ record { line = openAfter (i + 1) (ls ++ (a ∷ [])) (bs ++ s); events = [] }
+        ≡ record { lane = openAfter (i + 1) (ls ++ (a ∷ [])) (bs ++ s); events = [] }
     unfolding pieceAt
     middle-on l =
         step-middle limit (openAfter i ls bs) a (inputAt u place n (i + 1) s) gap-on refl (agrees-with u (i + 1))
         (counter-on n i (omega arith)) h (indicator-middle n i l)
         ∙ rw (length-append bs s)
 
-    -- the line after the last packet
-    abbrev closed : Line A
+    -- the lane after the last packet
+    abbrev closed : Lane A
     closed =
         record {
           channel = record {
@@ -214,14 +214,14 @@ module _ {A : Type 0} (limit place n : ℕ) (u : Unit) where
 
     last-on : i + 1 + 1 ≡ n
         → step limit (openAfter i ls bs) a (inputAt u place n (i + 1) s)
-        ≡ record { line = closed; events = labelled (ls ++ (a ∷ [])) (record { info = u; bytes = bs ++ s }) ∷ [] }
+        ≡ record { lane = closed; events = labelled (ls ++ (a ∷ [])) (record { info = u; bytes = bs ++ s }) ∷ [] }
     unfolding pieceAt
     last-on l =
         step-last limit (openAfter i ls bs) a (inputAt u place n (i + 1) s) gap-on refl (agrees-with u (i + 1))
         (counter-on n i (omega arith)) h (indicator-last n i l)
 
   -- the packets behind packet `i`
-  goes-on : (ps : List (List ℕ)) (tags : List A) (f : ℕ → Line A) (i : ℕ) (ls : List A) (bs : List ℕ)
+  goes-on : (ps : List (List ℕ)) (tags : List A) (f : ℕ → Lane A) (i : ℕ) (ls : List A) (bs : List ℕ)
       → f place ≡ openAfter i ls bs → length tags ≡ length ps → 0 < length ps → i + 1 + length ps ≡ n
       → length bs + length (joined ps) ≤ limit
       → Rejoined limit place u n (ls ++ tags) (bs ++ joined ps) f (tagged tags (inputsFrom u place n (i + 1) ps))
@@ -241,12 +241,12 @@ module _ {A : Type 0} (limit place n : ℕ) (u : Unit) where
       let o = openAfter (i + 1) (ls ++ (a ∷ [])) (bs ++ s) in
       let xs = tagged tags (inputsFrom u place n (i + 1 + 1) (t ∷ ps)) in
       let z = runs f a (i + 1) s xs _ _ e (middle-on i ls bs a s h (omega arith)) in
-      let y = goes-on (t ∷ ps) tags (withLine limit f place o) (i + 1) (ls ++ (a ∷ [])) (bs ++ s) (with-place f o) (omega arith)
+      let y = goes-on (t ∷ ps) tags (withLane limit f place o) (i + 1) (ls ++ (a ∷ [])) (bs ++ s) (with-place f o) (omega arith)
       (omega arith) (omega arith) k in
       in-front f _ xs o _ _ z (rw (append-assoc bs s j, append-assoc ls (a ∷ []) tags) at y)
 
   -- the first packet
-  module _ (b : withPsn u 0 ≡ u) (f : ℕ → Line A) (g : gap (f place .channel) (u .psn) ≡ false)
+  module _ (b : withPsn u 0 ≡ u) (f : ℕ → Lane A) (g : gap (f place .channel) (u .psn) ≡ false)
       (q : interrupted (f place .channel .phase) ≡ 0) (a : A) (s : List ℕ) where
     first-gap : gap (f place .channel) (withPsn u 0 .psn) ≡ false
     first-gap = rw b g
@@ -261,10 +261,10 @@ module _ {A : Type 0} (limit place n : ℕ) (u : Unit) where
         let x = inputAt u place n 0 s in
         let t = length-append s (joined ps) in
         let o = openAfter 0 (a ∷ []) s in
-        let e : step limit (f place) a x ≡ record { line = o; events = [] } =
+        let e : step limit (f place) a x ≡ record { lane = o; events = [] } =
         step-first limit (f place) a x first-gap (indicator-first n (omega arith)) q (omega arith) ∙ rw b in
         let xs = tagged tags (inputsFrom u place n (0 + 1) ps) in
-        let y = goes-on ps tags (withLine limit f place o) 0 (a ∷ []) s (with-place f o) l p (omega arith) (omega arith) in
+        let y = goes-on ps tags (withLane limit f place o) 0 (a ∷ []) s (with-place f o) l p (omega arith) (omega arith) in
         in-front f _ xs o _ _ (runs f a 0 s xs _ _ refl e) y
 
     -- the only one
@@ -273,15 +273,15 @@ module _ {A : Type 0} (limit place n : ℕ) (u : Unit) where
     alone k =
         let x = inputAt u place n 0 s in
         let c : Channel = record { phase = Idle; last = u .psn; current = f place .channel .current } in
-        let o : Line A = record { channel = c; labels = f place .labels; bytes = f place .bytes } in
+        let o : Lane A = record { channel = c; labels = f place .labels; bytes = f place .bytes } in
         let t : List (Event A) = labelled (a ∷ []) (record { info = u; bytes = s }) ∷ [] in
-        let e : step limit (f place) a x ≡ record { line = o; events = t } =
+        let e : step limit (f place) a x ≡ record { lane = o; events = t } =
         step-whole limit (f place) a x first-gap (rw (← k)) q ∙ rw b in
         let d : n - 1 ≡ 0 = omega arith in
         rw (append-nil s) (at-end f _ o (a ∷ []) s (runs f a 0 s [] _ _ refl e) refl (rw (d, b)))
 
   -- all packets
-  rejoins : (ps : List (List ℕ)) (tags : List A) (f : ℕ → Line A) → withPsn u 0 ≡ u → gap (f place .channel) (u .psn) ≡ false
+  rejoins : (ps : List (List ℕ)) (tags : List A) (f : ℕ → Lane A) → withPsn u 0 ≡ u → gap (f place .channel) (u .psn) ≡ false
       → interrupted (f place .channel .phase) ≡ 0 → length tags ≡ length ps → length ps ≡ n → 0 < n
       → (1 < n → length (joined ps) ≤ limit)
       → Rejoined limit place u n tags (joined ps) f (tagged tags (inputsFrom u place n 0 ps))

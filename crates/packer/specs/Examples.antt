@@ -11,7 +11,7 @@ use Rattle.packer.specs.declared.pack.Packed.the-variants.{Written, Refu
 use Rattle.packer.specs.Pieces.{piecesBy, pieces, countBy, maxPieces, indicatorAt, counterAt, withPsn, pieceAt}
 use Rattle.packer.specs.Packet.{outerHead, payloadType, mmtpHead, indicatorBits, fragmentBits, mpuHead}
 use Rattle.packer.specs.Packet.{signallingHead, payloadHead, timedFields, fieldsWritten, dataUnit, mmtpOf, packetOf}
-use Rattle.packer.specs.Packer.{packetAt, packetsFrom, packets, joined, run, refusalOf, packed, packOf}
+use Rattle.packer.specs.Packer.{packetAt, packetsFrom, packets, joined, run, packRefusal, packed, packOf}
 
 abbrev fields : Fields
 fields =
@@ -92,7 +92,7 @@ Examples =
 pub examples : Examples
 unfolding bytesOf pasted piecesBy pieces indicatorAt counterAt withPsn pieceAt outerHead payloadType mmtpHead indicatorBits
     fragmentBits mpuHead signallingHead payloadHead timedFields fieldsWritten dataUnit mmtpOf packetOf packetAt packetsFrom
-    packets joined run refusalOf packed packOf countBy
+    packets joined run packRefusal packed packOf countBy
 examples = (refl, refl, refl, refl, refl, refl, refl, refl, refl, refl, refl, refl, refl, refl)
 
 -- a refused call, and the output as it was
@@ -112,5 +112,5 @@ Refusals =
 pub refusals : Refusals
 unfolding bytesOf pasted piecesBy pieces indicatorAt counterAt withPsn pieceAt outerHead payloadType mmtpHead indicatorBits
     fragmentBits mpuHead signallingHead payloadHead timedFields fieldsWritten dataUnit mmtpOf packetOf packetAt packetsFrom
-    packets joined run refusalOf packed packOf
+    packets joined run packRefusal packed packOf
 refusals = (refl, refl, refl, refl, refl, refl, refl)

@@ -33,8 +33,8 @@ run u cid sn m s = joined (packets u cid sn m s)
 
 -- "70 piece size m not 1 to 1,400; 71 kind above 4; 72 over 256 pieces; 73 output short; 74 CID above 4,095", in this order:
 -- `n` pieces, a run of `len` bytes, an output of `room`
-unfoldable pub refusalOf : ℕ → ℕ → ℕ → ℕ → ℕ → ℕ → ℕ
-refusalOf m kind n len room cid =
+unfoldable pub packRefusal : ℕ → ℕ → ℕ → ℕ → ℕ → ℕ → ℕ
+packRefusal m kind n len room cid =
     cond (eqb m 0) 70
     (cond (ltb 1400 m) 70 (cond (ltb 4 kind) 71 (cond (ltb maxPieces n) 72 (cond (ltb room len) 73 (cond (ltb 4095 cid) 74 0)))))
 
@@ -46,7 +46,7 @@ packed r out = pasted out 0 r (length r)
 unfoldable pub packOf : Unit → ℕ → ℕ → ℕ → List ℕ → List ℕ → Packed × List ℕ
 packOf u cid sn m s out =
     let r = run u cid sn m s in
-    let refusal = refusalOf m (u .kind) (length (pieces m s)) (length r) (length out) cid in
+    let refusal = packRefusal m (u .kind) (length (pieces m s)) (length r) (length out) cid in
     cond (eqb refusal 0) (Written (length r), packed r out) (Refused refusal, out)
 
 -- document 01's number for each case; 0 for a unit that was packed

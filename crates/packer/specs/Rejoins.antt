@@ -8,7 +8,7 @@ use Rattle.reassembly.specs.declared.unit.Unit.{Unit}
 use Rattle.reassembly.specs.declared.channel.Phase.the-variants.{Unheard, Idle}
 use Rattle.reassembly.specs.declared.channel.Channel.{Channel}
 use Rattle.reassembly.specs.Channel.{nextPsn}
-use Rattle.reassembly.specs.Run.{Input, Line, labelled, run, linesAfter}
+use Rattle.reassembly.specs.Run.{Input, Lane, labelled, run, lanesAfter}
 use Rattle.packer.specs.Pieces.{pieces, withPsn, pieceAt}
 
 -- what packet `i` of `n` brings to joining, its packet_id at this place of the watch list
@@ -30,17 +30,17 @@ pub data Ready (ch : Channel) (psn : Psn) : Type 0 where
   idle : ch .phase ≡ Idle → nextPsn (ch .last) ≡ psn → Ready ch psn
 
 -- one unit, with the labels of its packets, and no note; then idle, with the last packet's psn; the other packet_ids as they were
-pub record Rejoined {A : Type 0} (limit place : ℕ) (u : Unit) (n : ℕ) (ls : List A) (s : List ℕ) (f : ℕ → Line A)
+pub record Rejoined {A : Type 0} (limit place : ℕ) (u : Unit) (n : ℕ) (ls : List A) (s : List ℕ) (f : ℕ → Lane A)
     (xs : List (A × Input)) : Type 0 where
   pub events : run limit f xs ≡ labelled ls (record { info = u; bytes = s }) ∷ []
-  pub phase : linesAfter limit f xs place .channel .phase ≡ Idle
-  pub last : linesAfter limit f xs place .channel .last ≡ withPsn u (n - 1) .psn
-  pub others : (k : ℕ) → (k ≡ place → ⊥) → linesAfter limit f xs k ≡ f k
+  pub phase : lanesAfter limit f xs place .channel .phase ≡ Idle
+  pub last : lanesAfter limit f xs place .channel .last ≡ withPsn u (n - 1) .psn
+  pub others : (k : ℕ) → (k ≡ place → ⊥) → lanesAfter limit f xs k ≡ f k
 
 -- for labels of any type; "joined units at most R"
 abbrev pub UnitRejoined : Type 1
 UnitRejoined =
-    (A : Type 0) (limit place m : ℕ) (u : Unit) (s : List ℕ) (f : ℕ → Line A) (xs : List (A × Input))
+    (A : Type 0) (limit place m : ℕ) (u : Unit) (s : List ℕ) (f : ℕ → Lane A) (xs : List (A × Input))
     → u .psn .0 < 2 ^ 32 → (1 < length (pieces m s) → length s ≤ limit) → Ready (f place .channel) (u .psn)
     → map (λ x. x .1) xs ≡ inputs u place m s
     → Rejoined limit place u (length (pieces m s)) (map (λ x. x .0) xs) s f xs

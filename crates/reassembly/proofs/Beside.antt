@@ -1,4 +1,4 @@
--- One step of a line that gets every packet, beside the line of the same packet_id that gets only those received.
+-- One step of a lane that gets every packet, beside the lane of the same packet_id that gets only those received.
 use Prim.Native.Nat.{ℕ, suc, _+_, _%_, _≤_, _<_}
 use mathlib.Core.Path.{_≡_, refl, sym, ap, _∙_}
 use mathlib.Core.Bool.{Bool, true, false, true≢false}
@@ -15,7 +15,7 @@ use Rattle.reassembly.specs.declared.channel.Channel.{Channel}
 use Rattle.wire.specs.Lists.{all, all-last, not-all-last, not-all-before}
 use Rattle.reassembly.specs.Channel.{nextPsn, heard, gap}
 use Rattle.reassembly.specs.Join.{begun, followed, interrupted, notesOf}
-use Rattle.reassembly.specs.Run.{Content, Input, Line, Stepped, labelled, step, units, Clean}
+use Rattle.reassembly.specs.Run.{Content, Input, Lane, Stepped, labelled, step, units, Clean}
 use Rattle.reassembly.specs.Claims.{unharmed}
 use Rattle.reassembly.proofs.Steps.{Deaf, Further, Went, gives, begins, skips, grows, ends, shut-quiet, does, AsFrom}
 use Rattle.reassembly.proofs.Steps.{step-on, step-gap, clean-on, clean-step, deaf-does}
@@ -47,10 +47,10 @@ deaf-unheard Open h = absurd (true≢false h)
 deaf-waiting : (ph : Phase) → ph ≡ Waiting → Deaf ph
 deaf-waiting ph e = rw e tt
 
--- ---- lines
+-- ---- lanes
 module _ {A : Type 0} where
-  went-heard : {limit : ℕ} {l : Line A} {a : A} {x : Input} {f : Indicator} {ph : Phase} {s : Stepped A}
-      → Went limit l a x f ph s → (heard (s .line .channel .phase) ≡ true) × (s .line .channel .last ≡ x .piece .unit .psn)
+  went-heard : {limit : ℕ} {l : Lane A} {a : A} {x : Input} {f : Indicator} {ph : Phase} {s : Stepped A}
+      → Went limit l a x f ph s → (heard (s .lane .channel .phase) ≡ true) × (s .lane .channel .last ≡ x .piece .unit .psn)
   unfolding heard
   went-heard (gives t) = (refl, refl)
   went-heard (begins t e) = (refl, refl)
@@ -58,28 +58,28 @@ module _ {A : Type 0} where
   went-heard grows = (refl, refl)
   went-heard ends = (refl, refl)
 
-  -- two lines of one state; what a line has gathered counts only while a unit is open
-  abbrev pub Same : Phase → Line A → Line A → Type 0
+  -- two lanes of one state; what a lane has gathered counts only while a unit is open
+  abbrev pub Same : Phase → Lane A → Lane A → Type 0
   Same Unheard u d = Unit {0}
   Same Waiting u d = Unit {0}
   Same Idle u d = Unit {0}
   Same Open u d = d ≡ u
 
-  pub record Alike (u d : Line A) : Type 0 where
+  pub record Alike (u d : Lane A) : Type 0 where
     pub phase : d .channel .phase ≡ u .channel .phase
     pub last : d .channel .last ≡ u .channel .last
     pub same : Same (u .channel .phase) u d
 
-  same-self : (ph : Phase) (l : Line A) → Same ph l l
+  same-self : (ph : Phase) (l : Lane A) → Same ph l l
   same-self Unheard l = tt
   same-self Waiting l = tt
   same-self Idle l = tt
   same-self Open l = refl
 
-  pub alike-self : (l : Line A) → Alike l l
+  pub alike-self : (l : Lane A) → Alike l l
   alike-self l = record { phase = refl; last = refl; same = same-self (l .channel .phase) l }
 
-  gap-alike : {u d : Line A} → Alike u d → (psn : Psn) → gap (d .channel) psn ≡ gap (u .channel) psn
+  gap-alike : {u d : Lane A} → Alike u d → (psn : Psn) → gap (d .channel) psn ≡ gap (u .channel) psn
   unfolding gap
   gap-alike e psn = rw (e .phase, e .last)
 
@@ -91,11 +91,11 @@ module _ {A : Type 0} (keep : A → Bool) where
   Carried b Idle ls = Unit {0}
   Carried b Open ls = all keep ls ≡ b
 
-  abbrev pub Holds : Bool → Line A → Type 0
+  abbrev pub Holds : Bool → Lane A → Type 0
   Holds b l = Carried b (l .channel .phase) (l .labels)
 
   -- u has got all of n packets, d those received
-  pub data Beside (u d : Line A) (n : ℕ) : Type 0 where
+  pub data Beside (u d : Lane A) (n : ℕ) : Type 0 where
     -- they are in step
     level : Alike u d → Holds true u → Beside u d n
     -- d lacks the last g packets
@@ -119,12 +119,12 @@ module _ {A : Type 0} (keep : A → Bool) where
   one-is a false k = rw k
 
   module _ (limit : ℕ) where
-    -- ---- FI 10 or 11 gives nothing to a line that waits, and leaves it waiting
+    -- ---- FI 10 or 11 gives nothing to a lane that waits, and leaves it waiting
     abbrev Idles : Input → Stepped A → Type 0
     Idles x w =
-        (w .line .channel .phase ≡ Waiting) × (w .line .channel .last ≡ x .piece .unit .psn) × (units (w .events) ≡ [])
+        (w .lane .channel .phase ≡ Waiting) × (w .lane .channel .last ≡ x .piece .unit .psn) × (units (w .events) ≡ [])
 
-    module _ (d : Line A) (a : A) (x : Input) where
+    module _ (d : Lane A) (a : A) (x : Input) where
       further-idles : (f : Indicator) → Further f → Idles x (does limit f Waiting d a x)
       unfolding does followed notesOf
       further-idles Whole t = absurd t
@@ -135,24 +135,24 @@ module _ {A : Type 0} (keep : A → Bool) where
       deaf-idles : (f : Indicator) → Further f → (ph : Phase) → Deaf ph → Idles x (does limit f ph d a x)
       deaf-idles f t ph v = rw (deaf-does limit d a x f ph v) (further-idles f t)
 
-    -- two steps to lines of one state, with the same units
+    -- two steps to lanes of one state, with the same units
     abbrev Along : Stepped A → Stepped A → Type 0
-    Along s w = Alike (s .line) (w .line) × (units (w .events) ≡ units (s .events))
+    Along s w = Alike (s .lane) (w .lane) × (units (w .events) ≡ units (s .events))
 
-    equal-along : (f : Indicator) (ph : Phase) (a : A) (x : Input) {u d : Line A} {s : Stepped A} → d ≡ u
+    equal-along : (f : Indicator) (ph : Phase) (a : A) (x : Input) {u d : Lane A} {s : Stepped A} → d ≡ u
         → does limit f ph u a x ≡ s → Along s (does limit f ph d a x)
-    equal-along f ph a x {s = s} e q = rw (e, q) (alike-self (s .line), refl)
+    equal-along f ph a x {s = s} e q = rw (e, q) (alike-self (s .lane), refl)
 
     -- a step of w that was received, beside the step s of all packets: in step again, or adrift
     abbrev Again : Stepped A → Stepped A → Type 0
     Again s w =
-        ((Alike (s .line) (w .line) × Holds true (s .line)) ⊎ (Deaf (w .line .channel .phase) × Holds false (s .line)))
+        ((Alike (s .lane) (w .lane) × Holds true (s .lane)) ⊎ (Deaf (w .lane .channel .phase) × Holds false (s .lane)))
         × (units (w .events) ≡ unharmed keep (units (s .events)))
 
     -- ---- a step without a note, by what it comes to
-    module _ {u : Line A} {a : A} {x : Input} where
+    module _ {u : Lane A} {a : A} {x : Input} where
       went-lost : {f : Indicator} {ph : Phase} {s : Stepped A} → Went limit u a x f ph s → keep a ≡ false
-          → (unharmed keep (units (s .events)) ≡ []) × Holds false (s .line)
+          → (unharmed keep (units (s .events)) ≡ []) × Holds false (s .lane)
       went-lost (gives t) k = (units-lost a (x .wholes) k, tt)
       went-lost (begins t e) k = (refl, one-is a false k)
       went-lost (skips t d) k = (refl, tt)
@@ -160,15 +160,15 @@ module _ {A : Type 0} (keep : A → Bool) where
       went-lost ends k = (rw (not-all-last keep (u .labels) a k), tt)
 
       went-received : {f : Indicator} {ph : Phase} {s : Stepped A} → Went limit u a x f ph s → keep a ≡ true
-          → Carried true ph (u .labels) → (units (s .events) ≡ unharmed keep (units (s .events))) × Holds true (s .line)
+          → Carried true ph (u .labels) → (units (s .events) ≡ unharmed keep (units (s .events))) × Holds true (s .lane)
       went-received (gives t) k c = (units-received a (x .wholes) k, tt)
       went-received (begins t e) k c = (refl, one-is a true k)
       went-received (skips t d) k c = (refl, tt)
       went-received grows k c = (refl, all-last keep (u .labels) a c k)
       went-received ends k c = (rw (all-last keep (u .labels) a c k), tt)
 
-      -- a line of the same state goes along
-      went-along : {f : Indicator} {ph : Phase} {s : Stepped A} → Went limit u a x f ph s → (d : Line A) → Same ph u d
+      -- a lane of the same state goes along
+      went-along : {f : Indicator} {ph : Phase} {s : Stepped A} → Went limit u a x f ph s → (d : Lane A) → Same ph u d
           → does limit f ph u a x ≡ s → Along s (does limit f ph d a x)
       unfolding does begun notesOf
       went-along {ph = ph} (gives t) d e q = rw (shut-quiet ph t) (record { phase = refl; last = refl; same = tt }, refl)
@@ -180,8 +180,8 @@ module _ {A : Type 0} (keep : A → Bool) where
       went-along grows d e q = equal-along Middle Open a x e q
       went-along ends d e q = equal-along Last Open a x e q
 
-      -- a line that waits begins again
-      went-again : {f : Indicator} {ph : Phase} {s : Stepped A} → Went limit u a x f ph s → (d : Line A) → keep a ≡ true
+      -- a lane that waits begins again
+      went-again : {f : Indicator} {ph : Phase} {s : Stepped A} → Went limit u a x f ph s → (d : Lane A) → keep a ≡ true
           → Carried false ph (u .labels) → Again s (does limit f Waiting d a x)
       unfolding does begun notesOf interrupted
       went-again (gives t) d k c =
@@ -199,7 +199,7 @@ module _ {A : Type 0} (keep : A → Bool) where
           (inr (deaf-waiting _ (i .0), tt), rw (not-all-before keep (u .labels) a c) (i .2))
 
     -- ---- the step itself
-    module _ (u d : Line A) (n : ℕ) (a : A) (x : Input) (h : Clean (step limit u a x .events)) where
+    module _ (u d : Lane A) (n : ℕ) (a : A) (x : Input) (h : Clean (step limit u a x .events)) where
       went : Went limit u a x (x .piece .indicator) (u .channel .phase) (step limit u a x)
       went = clean-step limit u a x h
 
@@ -214,26 +214,26 @@ module _ {A : Type 0} (keep : A → Bool) where
 
       lost-behind : (g : ℕ) → heard (d .channel .phase) ≡ true
           → x .piece .unit .psn .0 ≡ (d .channel .last .0 + suc g) % 4294967296 → g ≤ n → keep a ≡ false
-          → Beside (step limit u a x .line) d (suc n)
+          → Beside (step limit u a x .lane) d (suc n)
       lost-behind g q e m k =
           behind (suc g) (went-heard went .0) q (rw (went-heard went .1) e) (omega arith) (omega arith) (went-lost went k .1)
 
       pub step-lost : Beside u d n → keep a ≡ false
-          → Beside (step limit u a x .line) d (suc n) × (unharmed keep (units (step limit u a x .events)) ≡ [])
+          → Beside (step limit u a x .lane) d (suc n) × (unharmed keep (units (step limit u a x .events)) ≡ [])
       step-lost b k = (moved b, went-lost went k .0)
         where
-          parted : Alike u d → (t : Bool) → heard (d .channel .phase) ≡ t → Beside (step limit u a x .line) d (suc n)
+          parted : Alike u d → (t : Bool) → heard (d .channel .phase) ≡ t → Beside (step limit u a x .lane) d (suc n)
           parted e true q = lost-behind 0 q (rw (e .last) (next (rw (e .phase) at q))) (omega arith) k
           parted e false q = adrift (deaf-unheard _ q) (went-lost went k .1)
 
-          moved : Beside u d n → Beside (step limit u a x .line) d (suc n)
+          moved : Beside u d n → Beside (step limit u a x .lane) d (suc n)
           moved (level e c) = parted e _ refl
           moved (behind g p q e i m c) = lost-behind g q (next-but g p e) m k
           moved (adrift w c) = adrift w (went-lost went k .1)
 
       abbrev Onward : Type 0
       Onward =
-          Beside (step limit u a x .line) (step limit d a x .line) (suc n)
+          Beside (step limit u a x .lane) (step limit d a x .lane) (suc n)
           × (units (step limit d a x .events) ≡ unharmed keep (units (step limit u a x .events)))
 
       -- the step of d is as if it waited

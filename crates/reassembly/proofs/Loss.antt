@@ -9,9 +9,9 @@ use lib.Dec.{eqb}
 use borrow.Author.Tests.{eqb-true}
 use Rattle.wire.specs.Lists.{put, all, sift-append}
 use Rattle.reassembly.specs.Channel.{unheard}
-use Rattle.reassembly.specs.Run.{Input, Labelled, Event, Line, Stepped, fresh, step, withLine, run, runLine}
+use Rattle.reassembly.specs.Run.{Input, Labelled, Event, Lane, Stepped, fresh, step, withLane, run, runLane}
 use Rattle.reassembly.specs.Run.{units, Clean, count}
-use Rattle.reassembly.specs.Claims.{received, unharmed, LineLoss, RunLoss, SentLoss}
+use Rattle.reassembly.specs.Claims.{received, unharmed, LaneLoss, RunLoss, SentLoss}
 use Rattle.reassembly.proofs.Events.{clean-left, clean-right, units-append}
 use Rattle.reassembly.proofs.Sent.{run-sent}
 use Rattle.reassembly.proofs.Beside.{Beside, level, alike-self, step-lost, step-received}
@@ -34,51 +34,51 @@ module _ {A : Type 0} (keep : A → Bool) where
 
   module _ (limit : ℕ) where
     -- one packet_id
-    pub line-from : (xs : List (A × Input)) (u d : Line A) (n : ℕ) → Beside keep u d n → n + length xs ≤ 4294967295
-        → Clean (runLine limit u xs) → units (runLine limit d (received keep xs)) ≡ unharmed keep (units (runLine limit u xs))
-    unfolding runLine
-    line-from [] u d n b l h = refl
-    line-from (x ∷ xs) u d n b l h =
-        go (keep (x .0)) refl (λ e t. line-from xs (s .line) e (suc n) t (omega arith) (clean-right (s .events) rest h))
+    pub lane-from : (xs : List (A × Input)) (u d : Lane A) (n : ℕ) → Beside keep u d n → n + length xs ≤ 4294967295
+        → Clean (runLane limit u xs) → units (runLane limit d (received keep xs)) ≡ unharmed keep (units (runLane limit u xs))
+    unfolding runLane
+    lane-from [] u d n b l h = refl
+    lane-from (x ∷ xs) u d n b l h =
+        go (keep (x .0)) refl (λ e t. lane-from xs (s .lane) e (suc n) t (omega arith) (clean-right (s .events) rest h))
       where
         s : Stepped A
         s = step limit u (x .0) (x .1)
 
         rest : List (Event A)
-        rest = runLine limit (s .line) xs
+        rest = runLane limit (s .lane) xs
 
         first : Clean (step limit u (x .0) (x .1) .events)
         first = clean-left (s .events) rest h
 
         go : (k : Bool) → keep (x .0) ≡ k
-            → ((e : Line A) → Beside keep (s .line) e (suc n)
-            → units (runLine limit e (received keep xs)) ≡ unharmed keep (units rest))
-            → units (runLine limit d (put k x (received keep xs))) ≡ unharmed keep (units (runLine limit u (x ∷ xs)))
+            → ((e : Lane A) → Beside keep (s .lane) e (suc n)
+            → units (runLane limit e (received keep xs)) ≡ unharmed keep (units rest))
+            → units (runLane limit d (put k x (received keep xs))) ≡ unharmed keep (units (runLane limit u (x ∷ xs)))
         go true k ih =
             let w = step limit d (x .0) (x .1) in
             let t = step-received keep limit u d n (x .0) (x .1) first b k (omega arith) in
-            glue-received (s .events) rest (w .events) (runLine limit (w .line) (received keep xs)) (t .1) (ih _ (t .0))
+            glue-received (s .events) rest (w .events) (runLane limit (w .lane) (received keep xs)) (t .1) (ih _ (t .0))
         go false k ih =
             let t = step-lost keep limit u d n (x .0) (x .1) first b k in
-            glue-lost (s .events) rest (runLine limit d (received keep xs)) (t .1) (ih _ (t .0))
+            glue-lost (s .events) rest (runLane limit d (received keep xs)) (t .1) (ih _ (t .0))
 
     -- all packet_ids, each after its own number of packets
-    abbrev pub Besides : (u d : ℕ → Line A) (n : ℕ → ℕ) → Type 0
+    abbrev pub Besides : (u d : ℕ → Lane A) (n : ℕ → ℕ) → Type 0
     Besides u d n = (k : ℕ) → Beside keep (u k) (d k) (n k)
 
     abbrev tally : ℕ → (ℕ → ℕ) → ℕ → ℕ
     tally i n k = cond (eqb k i) (suc (n k)) (n k)
 
-    besides-received : (u d : ℕ → Line A) (n : ℕ → ℕ) (i : ℕ) (v e : Line A) → Besides u d n → Beside keep v e (suc (n i))
-        → Besides (withLine limit u i v) (withLine limit d i e) (tally i n)
+    besides-received : (u d : ℕ → Lane A) (n : ℕ → ℕ) (i : ℕ) (v e : Lane A) → Besides u d n → Beside keep v e (suc (n i))
+        → Besides (withLane limit u i v) (withLane limit d i e) (tally i n)
     besides-received u d n i v e b t k = go (eqb k i) refl
       where
         go : (c : Bool) → eqb k i ≡ c → Beside keep (cond c v (u k)) (cond c e (d k)) (cond c (suc (n k)) (n k))
         go true q = rw (eqb-true k i q) t
         go false q = b k
 
-    besides-lost : (u d : ℕ → Line A) (n : ℕ → ℕ) (i : ℕ) (v : Line A) → Besides u d n → Beside keep v (d i) (suc (n i))
-        → Besides (withLine limit u i v) d (tally i n)
+    besides-lost : (u d : ℕ → Lane A) (n : ℕ → ℕ) (i : ℕ) (v : Lane A) → Besides u d n → Beside keep v (d i) (suc (n i))
+        → Besides (withLane limit u i v) d (tally i n)
     besides-lost u d n i v b t k = go (eqb k i) refl
       where
         go : (c : Bool) → eqb k i ≡ c → Beside keep (cond c v (u k)) (d k) (cond c (suc (n k)) (n k))
@@ -93,7 +93,7 @@ module _ {A : Type 0} (keep : A → Bool) where
         → n (x .1 .place) < 4294967296
     counted n x xs l = omega arith
 
-    pub run-from : (xs : List (A × Input)) (u d : ℕ → Line A) (n : ℕ → ℕ) → Besides u d n
+    pub run-from : (xs : List (A × Input)) (u d : ℕ → Lane A) (n : ℕ → ℕ) → Besides u d n
         → ((k : ℕ) → n k + count k xs ≤ 4294967295)
         → Clean (run limit u xs) → units (run limit d (received keep xs)) ≡ unharmed keep (units (run limit u xs))
     unfolding run
@@ -107,8 +107,8 @@ module _ {A : Type 0} (keep : A → Bool) where
         s : Stepped A
         s = step limit (u i) (x .0) (x .1)
 
-        v : ℕ → Line A
-        v = withLine limit u i (s .line)
+        v : ℕ → Lane A
+        v = withLane limit u i (s .lane)
 
         rest : List (Event A)
         rest = run limit v xs
@@ -120,24 +120,24 @@ module _ {A : Type 0} (keep : A → Bool) where
         first = clean-left (s .events) rest h
 
         go : (k : Bool) → keep (x .0) ≡ k
-            → ((e : ℕ → Line A) → Besides v e (tally i n)
+            → ((e : ℕ → Lane A) → Besides v e (tally i n)
             → units (run limit e (received keep xs)) ≡ unharmed keep (units rest))
             → units (run limit d (put k x (received keep xs))) ≡ unharmed keep (units (run limit u (x ∷ xs)))
         go true k ih =
             let w = step limit (d i) (x .0) (x .1) in
             let t = step-received keep limit (u i) (d i) (n i) (x .0) (x .1) first (b i) k (counted n x xs (l i)) in
-            glue-received (s .events) rest (w .events) (run limit (withLine limit d i (w .line)) (received keep xs)) (t .1)
-            (ih _ (besides-received u d n i (s .line) (w .line) b (t .0)))
+            glue-received (s .events) rest (w .events) (run limit (withLane limit d i (w .lane)) (received keep xs)) (t .1)
+            (ih _ (besides-received u d n i (s .lane) (w .lane) b (t .0)))
         go false k ih =
             let t = step-lost keep limit (u i) (d i) (n i) (x .0) (x .1) first (b i) k in
-            glue-lost (s .events) rest (run limit d (received keep xs)) (t .1) (ih _ (besides-lost u d n i (s .line) b (t .0)))
+            glue-lost (s .events) rest (run limit d (received keep xs)) (t .1) (ih _ (besides-lost u d n i (s .lane) b (t .0)))
 
   level-fresh : Beside keep fresh fresh 0
   unfolding unheard
   level-fresh = level (alike-self fresh) tt
 
-pub line-loss : LineLoss
-line-loss A keep limit xs h l = line-from keep limit xs fresh fresh 0 (level-fresh keep) (omega arith) h
+pub lane-loss : LaneLoss
+lane-loss A keep limit xs h l = lane-from keep limit xs fresh fresh 0 (level-fresh keep) (omega arith) h
 
 pub run-loss : RunLoss
 run-loss A keep limit xs h l =

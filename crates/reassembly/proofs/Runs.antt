@@ -5,18 +5,18 @@ use mathlib.Core.List.{List, [], _∷_, _++_, append-assoc}
 use lib.Dec.{eqb}
 use borrow.Author.Tests.{eqb-true}
 use Rattle.wire.specs.Lists.{all}
-use Rattle.reassembly.specs.Run.{Event, Line, step, withLine, run, runLine, linesAfter}
+use Rattle.reassembly.specs.Run.{Event, Lane, step, withLane, run, runLane, lanesAfter}
 use Rattle.reassembly.specs.Claims.{RunAppend, RunAlone}
 
 pub run-append : RunAppend
-unfolding run linesAfter
+unfolding run lanesAfter
 run-append A limit f [] ys = (refl, refl)
 run-append A limit f (x ∷ xs) ys =
     let s = step limit (f (x .1 .place)) (x .0) (x .1) in
-    let g = withLine limit f (x .1 .place) (s .line) in
+    let g = withLane limit f (x .1 .place) (s .lane) in
     let t = run-append A limit g xs ys in (
       ap (λ (es : List (Event A)). s .events ++ es) (t .0)
-          ∙ sym (append-assoc (s .events) (run limit g xs) (run limit (linesAfter limit g xs) ys)),
+          ∙ sym (append-assoc (s .events) (run limit g xs) (run limit (lanesAfter limit g xs) ys)),
       t .1,
     )
 
@@ -25,14 +25,14 @@ and-both true b h = (refl, h)
 and-both false b h = absurd (false≢true h)
 
 pub run-alone : RunAlone
-unfolding run runLine
+unfolding run runLane
 run-alone A limit f k [] h = refl
 run-alone A limit f k (x ∷ xs) h =
     let t = and-both (eqb k (x .1 .place)) (all (λ x. eqb k (x .1 .place)) xs) h in
     let i = x .1 .place in
     let s = step limit (f i) (x .0) (x .1) in
-    let g = withLine limit f i (s .line) in
-    let own : g k ≡ s .line = rw (t .0) in
-    ap (λ (es : List (Event A)). s .events ++ es) (run-alone A limit g k xs (t .1) ∙ ap (λ (l : Line A). runLine limit l xs) own)
-    ∙ ap (λ (l : Line A). step limit l (x .0) (x .1) .events ++ runLine limit (step limit l (x .0) (x .1) .line) xs)
+    let g = withLane limit f i (s .lane) in
+    let own : g k ≡ s .lane = rw (t .0) in
+    ap (λ (es : List (Event A)). s .events ++ es) (run-alone A limit g k xs (t .1) ∙ ap (λ (l : Lane A). runLane limit l xs) own)
+    ∙ ap (λ (l : Lane A). step limit l (x .0) (x .1) .events ++ runLane limit (step limit l (x .0) (x .1) .lane) xs)
     (ap f (sym (eqb-true k i (t .0))))

@@ -1,4 +1,4 @@
--- What one step does to a line: by the indicator and the phase where nothing is noted, and after a gap as from waiting.
+-- What one step does to a lane: by the indicator and the phase where nothing is noted, and after a gap as from waiting.
 use Prim.Native.Nat.{ℕ, _+_}
 use mathlib.Core.Path.{_≡_, refl, sym, _∙_}
 use mathlib.Core.Bool.{Bool, true, false, _&&_}
@@ -14,7 +14,7 @@ use Rattle.reassembly.specs.Unit.{agrees}
 use Rattle.reassembly.specs.Channel.{gap}
 use Rattle.reassembly.specs.Join.{interrupted, longer, noted, notesOf}
 use Rattle.reassembly.specs.Join.{begun, counterFollows, grown, extended, followed, actedBy, acted, joinOf}
-use Rattle.reassembly.specs.Run.{Input, Event, Line, Stepped, gathered, labelled, given, eventsOf, step, units, Clean}
+use Rattle.reassembly.specs.Run.{Input, Event, Lane, Stepped, gathered, labelled, given, eventsOf, step, units, Clean}
 use Rattle.reassembly.proofs.Events.{units-noted}
 
 -- no unit is open
@@ -50,52 +50,52 @@ abbrev pub newly : Input → OpenUnit
 newly x = record { unit = x .piece .unit; counter = x .piece .counter; len = x .piece .len }
 
 module _ {A : Type 0} where
-  -- the line after a packet
-  abbrev pub lineOf : Phase → Input → OpenUnit → List A → List ℕ → Line A
-  lineOf ph x c ls bs =
+  -- the lane after a packet
+  abbrev pub laneOf : Phase → Input → OpenUnit → List A → List ℕ → Lane A
+  laneOf ph x c ls bs =
       record { channel = record { phase = ph; last = x .piece .unit .psn; current = c }; labels = ls; bytes = bs }
 
   -- the open unit with a packet's piece behind it, and the unit that this completes
-  abbrev pub further : Line A → Input → OpenUnit
+  abbrev pub further : Lane A → Input → OpenUnit
   further l x = longer (l .channel) (x .piece)
 
-  abbrev pub joinedUnit : Line A → A → Input → Event A
+  abbrev pub joinedUnit : Lane A → A → Input → Event A
   joinedUnit l a x =
       labelled (l .labels ++ (a ∷ [])) (record { info = l .channel .current .unit; bytes = l .bytes ++ x .bytes })
 
-  abbrev lineBy : Indicator → Line A → A → Input → Joined → Line A
-  lineBy f l a x j =
+  abbrev laneBy : Indicator → Lane A → A → Input → Joined → Lane A
+  laneBy f l a x j =
       record { channel = j .channel; labels = gathered f (l .labels) (a ∷ []); bytes = gathered f (l .bytes) (x .bytes) }
 
   -- what a step without a note comes to
-  pub data Went (limit : ℕ) (l : Line A) (a : A) (x : Input) : Indicator → Phase → Stepped A → Type 0 where
+  pub data Went (limit : ℕ) (l : Lane A) (a : A) (x : Input) : Indicator → Phase → Stepped A → Type 0 where
     gives : {ph : Phase} → Shut ph → Went limit l a x Whole ph (record {
-      line = lineOf Idle x (l .channel .current) (l .labels) (l .bytes);
+      lane = laneOf Idle x (l .channel .current) (l .labels) (l .bytes);
       events = map (labelled (a ∷ [])) (x .wholes);
     })
     begins : {ph : Phase} → Shut ph → ltb limit (x .piece .len) ≡ false
-        → Went limit l a x First ph (record { line = lineOf Open x (newly x) (a ∷ []) (x .bytes); events = [] })
+        → Went limit l a x First ph (record { lane = laneOf Open x (newly x) (a ∷ []) (x .bytes); events = [] })
     skips : {f : Indicator} {ph : Phase} → Further f → Deaf ph → Went limit l a x f ph (record {
-      line = lineOf Waiting x (l .channel .current) (gathered f (l .labels) (a ∷ [])) (gathered f (l .bytes) (x .bytes));
+      lane = laneOf Waiting x (l .channel .current) (gathered f (l .labels) (a ∷ [])) (gathered f (l .bytes) (x .bytes));
       events = [];
     })
     grows : Went limit l a x Middle Open (record {
-      line = lineOf Open x (further l x) (l .labels ++ (a ∷ [])) (l .bytes ++ x .bytes);
+      lane = laneOf Open x (further l x) (l .labels ++ (a ∷ [])) (l .bytes ++ x .bytes);
       events = [];
     })
     ends : Went limit l a x Last Open (record {
-      line = lineOf Idle x (further l x) (l .labels ++ (a ∷ [])) (l .bytes ++ x .bytes);
+      lane = laneOf Idle x (further l x) (l .labels ++ (a ∷ [])) (l .bytes ++ x .bytes);
       events = joinedUnit l a x ∷ [];
     })
 
   module _ (limit : ℕ) where
-    -- (c) of a packet with this indicator at a line in this phase, whatever they say themselves
-    unfoldable pub does : Indicator → Phase → Line A → A → Input → Stepped A
+    -- (c) of a packet with this indicator at a lane in this phase, whatever they say themselves
+    unfoldable pub does : Indicator → Phase → Lane A → A → Input → Stepped A
     does f ph l a x =
         let j = actedBy f (record { phase = ph; last = x .piece .unit .psn; current = l .channel .current }) (x .piece) limit in
-        record { line = lineBy f l a x j; events = eventsOf a x j (lineBy f l a x j) }
+        record { lane = laneBy f l a x j; events = eventsOf a x j (laneBy f l a x j) }
 
-    module _ (l : Line A) (a : A) (x : Input) where
+    module _ (l : Lane A) (a : A) (x : Input) where
       clean-begins : (ph : Phase) → Shut ph → (b : Bool) → ltb limit (x .piece .len) ≡ b → Clean (does First ph l a x .events)
           → Went limit l a x First ph (does First ph l a x)
       unfolding does begun notesOf
@@ -155,11 +155,11 @@ module _ {A : Type 0} where
       unfolding step joinOf acted does
       step-on g = rw g
 
-      -- r has the line and the units of w, perhaps with other notes
+      -- r has the lane and the units of w, perhaps with other notes
       abbrev pub AsFrom : Stepped A → Stepped A → Type 0
-      AsFrom w r = (r .line ≡ w .line) × (units (r .events) ≡ units (w .events))
+      AsFrom w r = (r .lane ≡ w .lane) × (units (r .events) ≡ units (w .events))
 
-      units-once : (n : ℕ) (j : Joined) (m : Line A) → units (eventsOf a x (noted n j) m) ≡ units (eventsOf a x j m)
+      units-once : (n : ℕ) (j : Joined) (m : Lane A) → units (eventsOf a x (noted n j) m) ≡ units (eventsOf a x j m)
       units-once n j m =
           let i = x .piece .unit .«packet_id» in
           let us = given (j .action) a x m in

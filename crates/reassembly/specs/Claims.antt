@@ -6,7 +6,7 @@ use mathlib.Core.List.{List, _++_}
 use lib.Dec.{eqb}
 use lib.ListN.{length}
 use Rattle.wire.specs.Lists.{sift, all}
-use Rattle.reassembly.specs.Run.{Input, Labelled, Line, fresh, run, runLine, linesAfter, units, Clean, count}
+use Rattle.reassembly.specs.Run.{Input, Labelled, Lane, fresh, run, runLane, lanesAfter, units, Clean, count}
 use Rattle.reassembly.specs.Sent.{sent}
 
 module _ {A : Type 0} (keep : A → Bool) where
@@ -23,10 +23,10 @@ abbrev pub Few : {A : Type 0} → List (A × Input) → Type 0
 Few xs = (k : ℕ) → count k xs ≤ 4294967295
 
 -- One packet_id: where all packets give no note, lost ones take away exactly the units that one of them carries.
-abbrev pub LineLoss : Type 1
-LineLoss =
-    (A : Type 0) (keep : A → Bool) (limit : ℕ) (xs : List (A × Input)) → Clean (runLine limit fresh xs) → length xs ≤ 4294967295
-    → units (runLine limit fresh (received keep xs)) ≡ unharmed keep (units (runLine limit fresh xs))
+abbrev pub LaneLoss : Type 1
+LaneLoss =
+    (A : Type 0) (keep : A → Bool) (limit : ℕ) (xs : List (A × Input)) → Clean (runLane limit fresh xs) → length xs ≤ 4294967295
+    → units (runLane limit fresh (received keep xs)) ≡ unharmed keep (units (runLane limit fresh xs))
 
 -- All packet_ids: the same; the other units keep their order and content.
 abbrev pub RunLoss : Type 1
@@ -46,15 +46,15 @@ SentLoss =
     (A : Type 0) (keep : A → Bool) (limit : ℕ) (xs : List (A × Input)) → Clean (run limit (λ k. fresh) xs) → Few xs
     → units (run limit (λ k. fresh) (received keep xs)) ≡ unharmed keep (sent xs)
 
--- A list in two parts: the second goes on from the lines after the first.
+-- A list in two parts: the second goes on from the lanes after the first.
 abbrev pub RunAppend : Type 1
 RunAppend =
-    (A : Type 0) (limit : ℕ) (f : ℕ → Line A) (xs ys : List (A × Input))
-    → (run limit f (xs ++ ys) ≡ run limit f xs ++ run limit (linesAfter limit f xs) ys)
-    × (linesAfter limit f (xs ++ ys) ≡ linesAfter limit (linesAfter limit f xs) ys)
+    (A : Type 0) (limit : ℕ) (f : ℕ → Lane A) (xs ys : List (A × Input))
+    → (run limit f (xs ++ ys) ≡ run limit f xs ++ run limit (lanesAfter limit f xs) ys)
+    × (lanesAfter limit f (xs ++ ys) ≡ lanesAfter limit (lanesAfter limit f xs) ys)
 
--- Packets of one packet_id alone: the run is that of its line.
+-- Packets of one packet_id alone: the run is that of its lane.
 abbrev pub RunAlone : Type 1
 RunAlone =
-    (A : Type 0) (limit : ℕ) (f : ℕ → Line A) (k : ℕ) (xs : List (A × Input)) → all (λ x. eqb k (x .1 .place)) xs ≡ true
-    → run limit f xs ≡ runLine limit (f k) xs
+    (A : Type 0) (limit : ℕ) (f : ℕ → Lane A) (k : ℕ) (xs : List (A × Input)) → all (λ x. eqb k (x .1 .place)) xs ≡ true
+    → run limit f xs ≡ runLane limit (f k) xs

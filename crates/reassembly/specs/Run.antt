@@ -36,14 +36,14 @@ module _ (A : Type 0) where
     note : ℕ → ℕ → Event
     unit : Labelled → Event
 
-  -- one packet_id: its state, and the labels and bytes of its open unit
-  pub record Line : Type 0 where
+  -- the lane of one packet_id: its state, and the labels and bytes of its open unit
+  pub record Lane : Type 0 where
     pub channel : Channel
     pub labels : List A
     pub bytes : List ℕ
 
   pub record Stepped : Type 0 where
-    pub line : Line
+    pub lane : Lane
     pub events : List Event
 
 -- what is gathered for a joined unit, its labels or its bytes, with a packet's own behind it
@@ -54,21 +54,21 @@ gathered Middle old new = old ++ new
 gathered Last old new = old ++ new
 
 module _ {A : Type 0} where
-  abbrev pub fresh : Line A
+  abbrev pub fresh : Lane A
   fresh = record { channel = unheard; labels = []; bytes = [] }
 
   abbrev pub labelled : List A → Content → Event A
   labelled ls u = unit (record { labels = ls; content = u })
 
   -- the units that a step gives
-  abbrev pub given : Action → A → Input → Line A → List (Event A)
+  abbrev pub given : Action → A → Input → Lane A → List (Event A)
   given Nothing a x l = []
   given GiveWhole a x l = map (labelled (a ∷ [])) (x .wholes)
   given (Store at) a x l = []
   given (Complete at) a x l = labelled (l .labels) (record { info = l .channel .current .unit; bytes = l .bytes }) ∷ []
 
-  abbrev pub lineAfter : Line A → A → Input → Joined → Line A
-  lineAfter l a x j =
+  abbrev pub laneAfter : Lane A → A → Input → Joined → Lane A
+  laneAfter l a x j =
       record {
         channel = j .channel;
         labels = gathered (x .piece .indicator) (l .labels) (a ∷ []);
@@ -76,38 +76,38 @@ module _ {A : Type 0} where
       }
 
   -- the packet's notes, each with its packet_id, then its units
-  abbrev pub eventsOf : A → Input → Joined → Line A → List (Event A)
+  abbrev pub eventsOf : A → Input → Joined → Lane A → List (Event A)
   eventsOf a x j l = map (λ n. note n (x .piece .unit .«packet_id»)) (notesOf j) ++ given (j .action) a x l
 
   module _ (limit : ℕ) where
-    unfoldable pub step : Line A → A → Input → Stepped A
+    unfoldable pub step : Lane A → A → Input → Stepped A
     step l a x =
         let j = joinOf (l .channel) (x .piece) limit in
-        record { line = lineAfter l a x j; events = eventsOf a x j (lineAfter l a x j) }
+        record { lane = laneAfter l a x j; events = eventsOf a x j (laneAfter l a x j) }
 
-    abbrev pub withLine : (ℕ → Line A) → ℕ → Line A → ℕ → Line A
-    withLine f k l i = cond (eqb i k) l (f i)
+    abbrev pub withLane : (ℕ → Lane A) → ℕ → Lane A → ℕ → Lane A
+    withLane f k l i = cond (eqb i k) l (f i)
 
-    -- the events of all packet_ids, in the order of the packets; `f k` is the line of place k
-    unfoldable pub run : (ℕ → Line A) → List (A × Input) → List (Event A)
+    -- the events of all packet_ids, in the order of the packets; `f k` is the lane of place k
+    unfoldable pub run : (ℕ → Lane A) → List (A × Input) → List (Event A)
     run f [] = []
     run f (x ∷ xs) =
         let s = step (f (x .1 .place)) (x .0) (x .1) in
-        s .events ++ run (withLine f (x .1 .place) (s .line)) xs
+        s .events ++ run (withLane f (x .1 .place) (s .lane)) xs
 
-    -- the line of each place after a list of packets
-    unfoldable pub linesAfter : (ℕ → Line A) → List (A × Input) → ℕ → Line A
-    linesAfter f [] = f
-    linesAfter f (x ∷ xs) =
+    -- the lane of each place after a list of packets
+    unfoldable pub lanesAfter : (ℕ → Lane A) → List (A × Input) → ℕ → Lane A
+    lanesAfter f [] = f
+    lanesAfter f (x ∷ xs) =
         let s = step (f (x .1 .place)) (x .0) (x .1) in
-        linesAfter (withLine f (x .1 .place) (s .line)) xs
+        lanesAfter (withLane f (x .1 .place) (s .lane)) xs
 
     -- the events of one packet_id, whose packets alone are in the list
-    unfoldable pub runLine : Line A → List (A × Input) → List (Event A)
-    runLine l [] = []
-    runLine l (x ∷ xs) =
+    unfoldable pub runLane : Lane A → List (A × Input) → List (Event A)
+    runLane l [] = []
+    runLane l (x ∷ xs) =
         let s = step l (x .0) (x .1) in
-        s .events ++ runLine (s .line) xs
+        s .events ++ runLane (s .lane) xs
 
   abbrev pub units : List (Event A) → List (Labelled A)
   units [] = []

@@ -20,12 +20,12 @@ use Rattle.delivery.specs.Cursor.{left}
 use Rattle.receiver.specs.declared.state.State.{State}
 use Rattle.receiver.specs.declared.answer.Called.{Called}
 use Rattle.receiver.specs.State.{refused}
-use Rattle.receiver.specs.Start.{blankConfig, freshState, twice, refusalOf as startRefusal, startOf}
+use Rattle.receiver.specs.Start.{blankConfig, freshState, twice, startRefusal, startOf}
 use Rattle.receiver.specs.Frame.{frameBusy, frameOf, lostFrameOf}
 use Rattle.receiver.specs.Slot.{
-  Out,
+  SlotOut,
   shortBy,
-  refusalOf,
+  slotRefusal,
   wrongLength,
   dueLength,
   dueOwn,
@@ -34,7 +34,7 @@ use Rattle.receiver.specs.Slot.{
   slotOf,
   lostSlotOf,
 }
-use Rattle.receiver.specs.Next.{Out as NextOut, readAll, nextOf}
+use Rattle.receiver.specs.Next.{NextOut, readAll, nextOf}
 use Rattle.receiver.specs.Show.{memoryOf, showOf}
 use Rattle.receiver.specs.Claims.{IsRefused, Kept, Demand1}
 use Rattle.receiver.proofs.Unrefused.{Unrefused, read-unrefused}
@@ -61,8 +61,8 @@ start-kept c =
     either (Keeps 1 4 (freshState blankConfig)) (eqb (startRefusal c) 0) (λ z. absurd (z refl))
     (λ z. record { number = start-row c z; state = refl })
 
-slot-row : (st : State) (packet collecting : ℕ) → Row 20 22 (refusalOf st packet collecting)
-unfolding refusalOf
+slot-row : (st : State) (packet collecting : ℕ) → Row 20 22 (slotRefusal st packet collecting)
+unfolding slotRefusal
 slot-row st packet collecting =
     either (Row 20 22) (leb 120 (st .frame .at)) (λ z. (omega arith, omega arith))
     (either (Row 20 22) (st .owed) (λ z. (omega arith, omega arith))
@@ -87,11 +87,11 @@ module _ (st : State) where
   lost-slot-kept : (packet collecting : ℕ) → Keeps 20 22 st (lostSlotOf st packet collecting)
   unfolding lostSlotOf
   lost-slot-kept packet collecting =
-      either (Keeps 20 22 st) (eqb (refusalOf st packet collecting) 0) (λ z. absurd (z refl))
+      either (Keeps 20 22 st) (eqb (slotRefusal st packet collecting) 0) (λ z. absurd (z refl))
       (λ z. record { number = slot-row st packet collecting z; state = refl })
 
   -- slot's answer, with packet memory
-  abbrev KeepsBoth : List ℕ → Out → Type 0
+  abbrev KeepsBoth : List ℕ → SlotOut → Type 0
   KeepsBoth p r = IsRefused (r .0) → Kept 20 23 st (r .0) × (r .1 ≡ p)
 
   taken-kept : (own : Bool) (p d : List ℕ) (t : Pointers) → KeepsBoth p (slotTaken own st p d t)
@@ -101,7 +101,7 @@ module _ (st : State) where
   slot-kept : (p c d : List ℕ) → KeepsBoth p (slotOf st p c d)
   unfolding slotOf
   slot-kept p c d =
-      either (KeepsBoth p) (eqb (refusalOf st (length p) (length c)) 0)
+      either (KeepsBoth p) (eqb (slotRefusal st (length p) (length c)) 0)
       (either (KeepsBoth p) (wrongLength (dueLength st) (length d))
       (λ z. (record { number = (omega arith, omega arith); state = refl }, refl)) (taken-kept (dueOwn st) p d (duePointers st)))
       (λ z.
@@ -116,11 +116,11 @@ module _ (st : State) where
   by-number true false false r p d t = refl
   by-number false b own r p d t = refl
 
-  slot-number : (p c d : List ℕ) → let r = refusalOf st (length p) (length c) in
+  slot-number : (p c d : List ℕ) → let r = slotRefusal st (length p) (length c) in
       slotOf st p c d .0 .refusal ≡ cond (eqb r 0) (cond (wrongLength (dueLength st) (length d)) 23 0) r
   unfolding slotOf
   slot-number p c d =
-      let r = refusalOf st (length p) (length c) in
+      let r = slotRefusal st (length p) (length c) in
       by-number (eqb r 0) (wrongLength (dueLength st) (length d)) (dueOwn st) r p d (duePointers st)
 
 -- an event that is no refusal

@@ -34,7 +34,7 @@ use Rattle.delivery.specs.declared.cursor.Advanced.{Advanced}
 use Rattle.delivery.specs.Packet.{wholeGiven, wholesOf, giveOf, unitLen, unitIn, bytesAt, baseOf, stepOf, pieceFrom, joinedOf, arrivedAt}
 use Rattle.delivery.specs.Within.{Inside, unit-inside, first-inside, part-within, part-length, Below, joined-below}
 use Rattle.delivery.specs.Within.{arrived-fits, length-joined}
-use Rattle.delivery.specs.Queue.{takenOf, nextUnit, taken-note, taken-over, taken-nothing, taken-one, taken-many}
+use Rattle.delivery.specs.Queue.{eventTaken, nextUnit, taken-note, taken-over, taken-nothing, taken-one, taken-many}
 use Rattle.tlv.specs.declared.packet.Next.{Next}
 use Rattle.tlv.specs.declared.packet.Next.the-variants.{Packet as PacketTo, Tail as TailAt}
 use Rattle.tlv.specs.Packet.{packetAt, tooLong}
@@ -45,7 +45,7 @@ use Rattle.receiver.specs.declared.state.State.{State}
 use Rattle.receiver.specs.State.{withSlot}
 use Rattle.receiver.specs.Slot.{shortBy}
 use Rattle.receiver.specs.Show.{showOf}
-use Rattle.receiver.specs.Next.{Out, past, onwards, arrivedBy, packetOf, readOn, readAll, nextOf, next-short, next-idle}
+use Rattle.receiver.specs.Next.{NextOut, past, onwards, arrivedBy, packetOf, readOn, readAll, nextOf, next-short, next-idle}
 use Rattle.receiver.specs.Next.{next-reads, short-room}
 use Rattle.receiver.specs.ReadOn.{packet-kept, length-packet, Ample}
 
@@ -87,7 +87,7 @@ module _ (q : Queue) (p c : List ℕ) (h : GiveLies (q .give) p c) where
   abbrev TakenLies : Taken → Type 0
   TakenLies t = EventLies (t .event) p c × GiveLies (t .queue .give) p c
 
-  many-lies : (a : Aggregate) (s : Step) → nextUnit a p ≡ s → q .note ≡ 0 → q .over ≡ false → q .give ≡ Many a → TakenLies (takenOf q p)
+  many-lies : (a : Aggregate) (s : Step) → nextUnit a p ≡ s → q .note ≡ 0 → q .over ≡ false → q .give ≡ Many a → TakenLies (eventTaken q p)
   many-lies a (UnitAt u) e n o g =
       rw (taken-many q p n o a g (UnitAt u) e) (
         whole-lies (record { packet = a .packet; start = a .start; end = a .end }) p c u
@@ -97,15 +97,15 @@ module _ (q : Queue) (p c : List ℕ) (h : GiveLies (q .give) p c) where
   many-lies a Malformed e n o g = rw (taken-many q p n o a g Malformed e) (tt, tt)
   many-lies a End e n o g = rw (taken-many q p n o a g End e) (tt, tt)
 
-  give-lies : (g : Give) → q .give ≡ g → q .note ≡ 0 → q .over ≡ false → TakenLies (takenOf q p)
+  give-lies : (g : Give) → q .give ≡ g → q .note ≡ 0 → q .over ≡ false → TakenLies (eventTaken q p)
   give-lies NoUnit e n o = rw (taken-nothing q p n o e) (tt, h)
   give-lies (One g) e n o = rw (taken-one q p n o g e) (subst (λ (x : Give). GiveLies x p c) e h, tt)
   give-lies (Many a) e n o = many-lies a (nextUnit a p) refl n o e
 
-  taken-lies : TakenLies (takenOf q p)
+  taken-lies : TakenLies (eventTaken q p)
   taken-lies = go (eqb (q .note) 0) (q .over) refl refl
     where
-      go : (x y : Bool) → eqb (q .note) 0 ≡ x → q .over ≡ y → TakenLies (takenOf q p)
+      go : (x y : Bool) → eqb (q .note) 0 ≡ x → q .over ≡ y → TakenLies (eventTaken q p)
       go true true e o = rw (taken-over q p (eqb-true _ 0 e) o) (tt, h)
       go true false e o = give-lies (q .give) refl (eqb-true _ 0 e) o
       go false y e o = rw (taken-note q p (eqb-false _ 0 e)) (tt, h)
@@ -165,17 +165,17 @@ advanced-lies cur p c =
 
 turn-lies : (q : Queue) (cur : Cursor) (p c : List ℕ) → GiveLies (q .give) p c
     → let t = turnOf q cur p in FoundLies (t .found) p c × GiveLies (t .queue .give) p c
-turn-lies q cur p c h = go (isEvent (takenOf q p .event)) refl
+turn-lies q cur p c h = go (isEvent (eventTaken q p .event)) refl
   where
-    go : (b : Bool) → isEvent (takenOf q p .event) ≡ b → let t = turnOf q cur p in FoundLies (t .found) p c × GiveLies (t .queue .give) p c
+    go : (b : Bool) → isEvent (eventTaken q p .event) ≡ b → let t = turnOf q cur p in FoundLies (t .found) p c × GiveLies (t .queue .give) p c
     go true e = rw (turn-event q cur p e) (taken-lies q p c h)
     go false e = rw (turn-on q cur p e) (advanced-lies cur p c, taken-lies q p c h .1)
 
 -- what next gives and leaves
-abbrev pub OutLies : Out → List ℕ → Type 0
+abbrev pub OutLies : NextOut → List ℕ → Type 0
 OutLies o p = EventLies (o .0 .event) p (o .1) × GiveLies (o .0 .state .queue .give) p (o .1)
 
-onwards-lies : (x : Found) (st : State) (p c : List ℕ) (f : State → List ℕ → Out) → FoundLies x p c → GiveLies (st .queue .give) p c
+onwards-lies : (x : Found) (st : State) (p c : List ℕ) (f : State → List ℕ → NextOut) → FoundLies x p c → GiveLies (st .queue .give) p c
     → Ample st c → ((s : State) (d : List ℕ) → GiveLies (s .queue .give) p d → Ample s d → OutLies (f s d) p)
     → OutLies (onwards x st p c f) p
 onwards-lies (Event e) st p c f x h r k = (x, h)

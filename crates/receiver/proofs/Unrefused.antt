@@ -23,10 +23,10 @@ use Rattle.delivery.specs.declared.queue.Taken.{Taken}
 use Rattle.delivery.specs.declared.cursor.Found.{Found}
 use Rattle.delivery.specs.declared.cursor.Found.the-variants.{Event as AnEvent, Packet, Tail, Done}
 use Rattle.delivery.specs.declared.cursor.Advanced.{Advanced}
-use Rattle.delivery.specs.Queue.{giveBy, manyBy, takenOf}
+use Rattle.delivery.specs.Queue.{giveBy, manyBy, eventTaken}
 use Rattle.delivery.specs.Cursor.{tailAdvanced, advancedBy, slotAdvanced, advancedOf, turnBy, turnOf}
 use Rattle.receiver.specs.declared.state.State.{State}
-use Rattle.receiver.specs.Next.{Out, onwards, readOn, past}
+use Rattle.receiver.specs.Next.{NextOut, onwards, readOn, past}
 
 abbrev pub Unrefused : Event → Type 0
 Unrefused Nothing = Prim.Unit {0}
@@ -46,8 +46,8 @@ give-unrefused (Many a) q p =
     many-unrefused
     (unitAt (partOf p (a .start) (a .end - a .start)) (a .at) (a .packet .payload .kind) (a .packet .payload .wide)) a q
 
-taken-unrefused : (q : Queue) (p : List ℕ) → Unrefused (takenOf q p .event)
-unfolding takenOf
+taken-unrefused : (q : Queue) (p : List ℕ) → Unrefused (eventTaken q p .event)
+unfolding eventTaken
 taken-unrefused q p =
     either (λ (t : Taken). Unrefused (t .event)) (eqb (q .note) 0)
     (either (λ (t : Taken). Unrefused (t .event)) (q .over) tt (give-unrefused (q .give) q p)) tt
@@ -82,10 +82,10 @@ turned-good (Note n id) u q c p = u
 turned-good (Unit g) u q c p = u
 turned-good (Refused n) u q c p = u
 
-abbrev Never : Out → Type 0
+abbrev Never : NextOut → Type 0
 Never r = Unrefused (r .0 .event)
 
-onwards-unrefused : (x : Found) → FoundGood x → (st : State) (p c : List ℕ) (more : State → List ℕ → Out)
+onwards-unrefused : (x : Found) → FoundGood x → (st : State) (p c : List ℕ) (more : State → List ℕ → NextOut)
     → ((s : State) (d : List ℕ) → Never (more s d)) → Never (onwards x st p c more)
 onwards-unrefused (AnEvent e) g st p c more h = g
 onwards-unrefused (Packet s e) g st p c more h = h _ _
@@ -96,7 +96,7 @@ pub read-unrefused : (f : ℕ) (st : State) (p c : List ℕ) → Never (readOn f
 unfolding readOn turnOf
 read-unrefused zero st p c = tt
 read-unrefused (suc f) st p c =
-    let k = takenOf (st .queue) p in
+    let k = eventTaken (st .queue) p in
     let t = turnBy (k .event) (k .queue) (st .cursor) p in
     onwards-unrefused (t .found) (turned-good (k .event) (taken-unrefused (st .queue) p) (k .queue) (st .cursor) p) (past st t) p c
     (λ s d. readOn f s p d) (λ s d. read-unrefused f s p d)

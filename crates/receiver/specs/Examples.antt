@@ -13,9 +13,9 @@ use Rattle.delivery.specs.declared.event.Event.the-variants.{Refused}
 use Rattle.delivery.specs.declared.event.Memory.the-variants.{Packet, Collecting}
 use Rattle.receiver.specs.declared.state.State.{State}
 use Rattle.receiver.specs.State.{withFrame, withOwed, withSlot, refused}
-use Rattle.receiver.specs.Start.{before, twiceBelow, twice, freshState, refusalOf as startRefusal}
+use Rattle.receiver.specs.Start.{before, twiceBelow, twice, freshState, startRefusal}
 use Rattle.receiver.specs.Frame.{frameBusy, frameOf, lossOf, lostFrameOf}
-use Rattle.receiver.specs.Slot.{shortBy, refusalOf as slotRefusal, wrongLength, slotOf, lostSlotOf}
+use Rattle.receiver.specs.Slot.{shortBy, slotRefusal, wrongLength, slotOf, lostSlotOf}
 use Rattle.receiver.specs.Next.{answered, nextOf}
 use Rattle.receiver.specs.Show.{showOf}
 

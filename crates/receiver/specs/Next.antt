@@ -26,10 +26,10 @@ use Rattle.receiver.specs.Slot.{shortBy}
 use Rattle.delivery.specs.Packet.{noteQueue, arrivedAt, joinedOf}
 use Rattle.delivery.specs.Cursor.{turnOf, left}
 
-abbrev pub Out : Type 0
-Out = Answer × List ℕ
+abbrev pub NextOut : Type 0
+NextOut = Answer × List ℕ
 
-abbrev pub answered : AnEvent → State → List ℕ → Out
+abbrev pub answered : AnEvent → State → List ℕ → NextOut
 answered e st c = (record { event = e; state = st }, c)
 
 -- what a packet leaves in the state, whose queue is empty, and in collecting memory
@@ -49,25 +49,25 @@ abbrev pub past : State → Turn → State
 past st t = withQueue (withSlot st (st .held) (t .cursor)) (t .queue)
 
 -- reading on from what was found, `st` being past it; `more` reads on from there
-abbrev pub onwards : Found → State → List ℕ → List ℕ → (State → List ℕ → Out) → Out
+abbrev pub onwards : Found → State → List ℕ → List ℕ → (State → List ℕ → NextOut) → NextOut
 onwards (Event e) st p c more = answered e st c
 onwards (Packet start end) st p c more = let r = packetOf st p c start end in more (r .0) (r .1)
 onwards (Tail start len) st p c more = more (withSlot st (holding start len) (st .cursor)) c
 onwards Done st p c more = answered Nothing (withOwed st false) c
 
 -- `f` bounds the packets that are read without an event
-unfoldable pub readOn : ℕ → State → List ℕ → List ℕ → Out
+unfoldable pub readOn : ℕ → State → List ℕ → List ℕ → NextOut
 readOn zero st p c = answered Nothing st c
 readOn (suc f) st p c =
     let t = turnOf (st .queue) (st .cursor) p in
     onwards (t .found) (past st t) p c (λ s d. readOn f s p d)
 
 -- reading on until there is an event, or nothing waits
-unfoldable pub readAll : State → List ℕ → List ℕ → Out
+unfoldable pub readAll : State → List ℕ → List ℕ → NextOut
 readAll st p c = readOn (suc (left (st .cursor))) st p c
 
 -- "next: 22"; with nothing owed, nothing waits
-unfoldable pub nextOf : State → List ℕ → List ℕ → Out
+unfoldable pub nextOf : State → List ℕ → List ℕ → NextOut
 nextOf st p c =
     cond (shortBy (st .config) (length p) (length c)) (answered (Refused 22) st c)
     (cond (st .owed) (readAll st p c) (answered Nothing st c))

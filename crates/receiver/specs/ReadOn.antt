@@ -22,7 +22,7 @@ use Rattle.delivery.specs.Packet.{arrivedAt, placeOf, receivedOf}
 use Rattle.delivery.specs.Within.{arrived-fits, length-received}
 use Rattle.receiver.specs.Slot.{shortBy}
 use Rattle.receiver.specs.Next.{
-  Out,
+  NextOut,
   answered,
   arrivedBy,
   packetOf,
@@ -80,10 +80,10 @@ module _ (st : State) (p c : List ℕ) where
       (length-received a _ (st .queue) p c (st .config .limit) (arrived-fits (st .config) p start end a (length c) refl h))
 
 -- `f` and `g` do the same where the cursor has less left than `n`
-abbrev Agree : ℕ → List ℕ → (State → List ℕ → Out) → (State → List ℕ → Out) → Type 0
+abbrev Agree : ℕ → List ℕ → (State → List ℕ → NextOut) → (State → List ℕ → NextOut) → Type 0
 Agree n p f g = (s : State) (d : List ℕ) → left (s .cursor) < n → f s d ≡ g s d
 
-onwards-same : (st : State) (p c : List ℕ) (f g : State → List ℕ → Out) (x : Found) → turnOf (st .queue) (st .cursor) p .found ≡ x
+onwards-same : (st : State) (p c : List ℕ) (f g : State → List ℕ → NextOut) (x : Found) → turnOf (st .queue) (st .cursor) p .found ≡ x
     → Agree (left (st .cursor)) p f g
     → let s = past st (turnOf (st .queue) (st .cursor) p) in onwards x s p c f ≡ onwards x s p c g
 onwards-same st p c f g (Event e) h k = refl
@@ -148,7 +148,7 @@ module _ (st : State) (p c : List ℕ) where
   read-done h = read-by Done h
 
 -- what next leaves as it was: the configuration, the frame, and the length of collecting memory
-pub record Calm (st : State) (c : List ℕ) (o : Out) : Type 0 where
+pub record Calm (st : State) (c : List ℕ) (o : NextOut) : Type 0 where
   pub config : o .0 .state .config ≡ st .config
   pub frame : o .0 .state .frame ≡ st .frame
   pub size : length (o .1) ≡ length c
@@ -157,7 +157,7 @@ pub record Calm (st : State) (c : List ℕ) (o : Out) : Type 0 where
 abbrev pub Ample : State → List ℕ → Type 0
 Ample st c = st .config .watch .n * st .config .limit ≤ length c
 
-onwards-calm : (x : Found) (st : State) (p c : List ℕ) (f : State → List ℕ → Out) → Ample st c
+onwards-calm : (x : Found) (st : State) (p c : List ℕ) (f : State → List ℕ → NextOut) → Ample st c
     → ((s : State) (d : List ℕ) → Ample s d → Calm s d (f s d)) → Calm st c (onwards x st p c f)
 onwards-calm (Event e) st p c f h k = record { config = refl; frame = refl; size = refl }
 onwards-calm (Packet start end) st p c f h k =

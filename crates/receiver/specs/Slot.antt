@@ -15,7 +15,7 @@ use Rattle.receiver.specs.declared.state.State.{State}
 use Rattle.receiver.specs.declared.answer.Called.{Called}
 use Rattle.receiver.specs.Tests.{passed}
 use Rattle.delivery.specs.Choice.{neither}
-use Rattle.intake.specs.Slot.{takenOf}
+use Rattle.intake.specs.Slot.{intakeOf}
 use Rattle.receiver.specs.State.{withFrame, withOwed, withIntake, refused, accepted}
 use Rattle.receiver.specs.Frame.{lossOf}
 
@@ -24,8 +24,8 @@ unfoldable pub shortBy : Config → ℕ → ℕ → Bool
 shortBy c packet collecting = ltb packet 21433 || ltb collecting (c .watch .n * c .limit)
 
 -- "20 none due; 21 next owed; 22"; 0 for none
-unfoldable pub refusalOf : State → ℕ → ℕ → ℕ
-refusalOf st packet collecting =
+unfoldable pub slotRefusal : State → ℕ → ℕ → ℕ
+slotRefusal st packet collecting =
     cond (leb 120 (st .frame .at)) 20 (cond (st .owed) 21 (cond (shortBy (st .config) packet collecting) 22 0))
 
 -- the slot is counted, and next is owed
@@ -37,7 +37,7 @@ abbrev pub Taken : Type 0
 Taken = State × List ℕ
 
 abbrev pub ownOf : State → List ℕ → List ℕ → Pointers → Taken
-ownOf st p d t = let r = takenOf (st .held) p d t in (withIntake st (r .0), r .1)
+ownOf st p d t = let r = intakeOf (st .held) p d t in (withIntake st (r .0), r .1)
 
 -- the slot that is due: its data length, pointers, and whether it is an own live one
 abbrev pub dueLength : State → ℕ
@@ -53,17 +53,17 @@ dueOwn st = getD (st .frame .layout .own) (st .frame .at) false
 unfoldable pub wrongLength : ℕ → ℕ → Bool
 wrongLength due l = ltb 5049 l || not (eqb l due)
 
-abbrev pub Out : Type 0
-Out = Called × List ℕ
+abbrev pub SlotOut : Type 0
+SlotOut = Called × List ℕ
 
 -- "A dummy slot ..; it, or another stream's slot, given or lost, is only counted"
-abbrev pub slotTaken : Bool → State → List ℕ → List ℕ → Pointers → Out
+abbrev pub slotTaken : Bool → State → List ℕ → List ℕ → Pointers → SlotOut
 slotTaken false st p d t = (accepted (counted st), p)
 slotTaken true st p d t = let r = ownOf (counted st) p d t in (accepted (r .0), r .1)
 
-unfoldable pub slotOf : State → List ℕ → List ℕ → List ℕ → Out
+unfoldable pub slotOf : State → List ℕ → List ℕ → List ℕ → SlotOut
 slotOf st p c d =
-    let r = refusalOf st (length p) (length c) in
+    let r = slotRefusal st (length p) (length c) in
     cond (eqb r 0)
     (cond (wrongLength (dueLength st) (length d)) (refused 23 st, p) (slotTaken (dueOwn st) st p d (duePointers st)))
     (refused r st, p)
@@ -74,7 +74,7 @@ lossTaken true st = lossOf (counted st)
 
 unfoldable pub lostSlotOf : State → ℕ → ℕ → Called
 lostSlotOf st packet collecting =
-    let r = refusalOf st packet collecting in
+    let r = slotRefusal st packet collecting in
     cond (eqb r 0) (accepted (lossTaken (dueOwn st) st)) (refused r st)
 
 -- memories that are long enough, or not
@@ -115,28 +115,28 @@ pub record Ready (st : State) (packet collecting : ℕ) : Type 0 where
   pub collects : st .config .watch .n * st .config .limit ≤ collecting
 
 module _ (st : State) (packet collecting : ℕ) where
-  pub refused-none-due : 120 ≤ st .frame .at → refusalOf st packet collecting ≡ 20
-  unfolding refusalOf
+  pub refused-none-due : 120 ≤ st .frame .at → slotRefusal st packet collecting ≡ 20
+  unfolding slotRefusal
   refused-none-due h = rw (le-leb _ _ h)
 
   module _ (h : st .frame .at < 120) where
-    pub refused-owed : st .owed ≡ true → refusalOf st packet collecting ≡ 21
-    unfolding refusalOf
+    pub refused-owed : st .owed ≡ true → slotRefusal st packet collecting ≡ 21
+    unfolding slotRefusal
     refused-owed e = rw (lt-leb _ _ h, e)
 
-    pub refused-short : st .owed ≡ false → shortBy (st .config) packet collecting ≡ true → refusalOf st packet collecting ≡ 22
-    unfolding refusalOf
+    pub refused-short : st .owed ≡ false → shortBy (st .config) packet collecting ≡ true → slotRefusal st packet collecting ≡ 22
+    unfolding slotRefusal
     refused-short e f = rw (lt-leb _ _ h, e, f)
 
-    pub refused-none : st .owed ≡ false → shortBy (st .config) packet collecting ≡ false → refusalOf st packet collecting ≡ 0
-    unfolding refusalOf
+    pub refused-none : st .owed ≡ false → shortBy (st .config) packet collecting ≡ false → slotRefusal st packet collecting ≡ 0
+    unfolding slotRefusal
     refused-none e f = rw (lt-leb _ _ h, e, f)
 
-  pub accepts : Ready st packet collecting → refusalOf st packet collecting ≡ 0
+  pub accepts : Ready st packet collecting → slotRefusal st packet collecting ≡ 0
   accepts r = refused-none (r .due) (r .free) (long-enough (st .config) packet collecting (r .packets) (r .collects))
 
-  pub ready : refusalOf st packet collecting ≡ 0 → Ready st packet collecting
-  unfolding refusalOf shortBy
+  pub ready : slotRefusal st packet collecting ≡ 0 → Ready st packet collecting
+  unfolding slotRefusal shortBy
   ready e =
       let c = st .config in
       let p = passed (leb 120 (st .frame .at)) 20 _ (λ z. omega arith) e in
@@ -172,12 +172,12 @@ module _ (due l : ℕ) where
 
 -- the cases of slot
 module _ (st : State) (p c d : List ℕ) where
-  pub slot-refused : (refusalOf st (length p) (length c) ≡ 0 → ⊥)
-      → slotOf st p c d ≡ (refused (refusalOf st (length p) (length c)) st, p)
+  pub slot-refused : (slotRefusal st (length p) (length c) ≡ 0 → ⊥)
+      → slotOf st p c d ≡ (refused (slotRefusal st (length p) (length c)) st, p)
   unfolding slotOf
   slot-refused n = rw (ne-eqb _ _ n)
 
-  module _ (z : refusalOf st (length p) (length c) ≡ 0) where
+  module _ (z : slotRefusal st (length p) (length c) ≡ 0) where
     pub slot-wrong-length : wrongLength (dueLength st) (length d) ≡ true → slotOf st p c d ≡ (refused 23 st, p)
     unfolding slotOf
     slot-wrong-length w = rw (eq-eqb _ _ z, w)
@@ -194,12 +194,12 @@ module _ (st : State) (p c d : List ℕ) where
 
 -- and of a lost one
 module _ (st : State) (packet collecting : ℕ) where
-  pub lost-refused : (refusalOf st packet collecting ≡ 0 → ⊥)
-      → lostSlotOf st packet collecting ≡ refused (refusalOf st packet collecting) st
+  pub lost-refused : (slotRefusal st packet collecting ≡ 0 → ⊥)
+      → lostSlotOf st packet collecting ≡ refused (slotRefusal st packet collecting) st
   unfolding lostSlotOf
   lost-refused n = rw (ne-eqb _ _ n)
 
-  module _ (z : refusalOf st packet collecting ≡ 0) where
+  module _ (z : slotRefusal st packet collecting ≡ 0) where
     pub lost-not-own : dueOwn st ≡ false → lostSlotOf st packet collecting ≡ accepted (counted st)
     unfolding lostSlotOf
     lost-not-own o = rw (eq-eqb _ _ z, o)

@@ -53,8 +53,8 @@ freshState c =
     }
 
 -- "1 n not 1 to 16; 2 an id twice; 3 CID above 4,095; 4 R not 1 to 1,048,576"; 0 for none
-unfoldable pub refusalOf : Config → ℕ
-refusalOf c =
+unfoldable pub startRefusal : Config → ℕ
+startRefusal c =
     cond (ltb (c .watch .n) 1 || ltb 16 (c .watch .n)) 1
     (cond (twice (c .watch) (c .watch .n)) 2
     (cond (ltb 4095 (c .cid)) 3 (cond (ltb (c .limit) 1 || ltb 1048576 (c .limit)) 4 0)))
@@ -64,14 +64,14 @@ abbrev pub blankConfig : Config
 blankConfig = record { stream = 0; cid = 0; watch = record { ids = replicate 16 0; n = 0 }; limit = 0 }
 
 unfoldable pub startOf : Config → Called
-startOf c = cond (eqb (refusalOf c) 0) (accepted (freshState c)) (refused (refusalOf c) (freshState blankConfig))
+startOf c = cond (eqb (startRefusal c) 0) (accepted (freshState c)) (refused (startRefusal c) (freshState blankConfig))
 
 -- a receiver is started, or not
-pub started : (c : Config) → refusalOf c ≡ 0 → startOf c ≡ accepted (freshState c)
+pub started : (c : Config) → startRefusal c ≡ 0 → startOf c ≡ accepted (freshState c)
 unfolding startOf
 started c e = rw (eq-eqb _ _ e)
 
-pub not-started : (c : Config) → (refusalOf c ≡ 0 → ⊥) → startOf c ≡ refused (refusalOf c) (freshState blankConfig)
+pub not-started : (c : Config) → (startRefusal c ≡ 0 → ⊥) → startOf c ≡ refused (startRefusal c) (freshState blankConfig)
 unfolding startOf
 not-started c e = rw (ne-eqb _ _ e)
 
@@ -136,8 +136,8 @@ pub record Starts (c : Config) : Type 0 where
   pub room : 1 ≤ c .limit
   pub most : c .limit ≤ 1048576
 
-pub starts : (c : Config) → refusalOf c ≡ 0 → Starts c
-unfolding refusalOf twice
+pub starts : (c : Config) → startRefusal c ≡ 0 → Starts c
+unfolding startRefusal twice
 starts c e =
     let n = c .watch .n in
     let p = passed (ltb n 1 || ltb 16 n) 1 _ (λ z. omega arith) e in
@@ -157,8 +157,8 @@ starts c e =
       most = ltb-false 1048576 (c .limit) (b .1);
     }
 
-pub accepts : (c : Config) → Starts c → refusalOf c ≡ 0
-unfolding refusalOf twice
+pub accepts : (c : Config) → Starts c → startRefusal c ≡ 0
+unfolding startRefusal twice
 accepts c s =
     let few = s .few in
     let m : min (c .watch .n) 16 ≡ c .watch .n = omega arith in

@@ -2,7 +2,7 @@
 ghost use mathlib.Core.Path.{_≡_};
 ghost use Prim.Native.Nat.{_≤_};
 ghost use lib.ListN.{length};
-ghost use Rattle.receiver.specs.Slot.{shortBy, refusalOf, counted, wrongLength, slotOf, lostSlotOf};
+ghost use Rattle.receiver.specs.Slot.{shortBy, slotRefusal, counted, wrongLength, slotOf, lostSlotOf};
 use crate::answer::Called;
 use crate::frame::after_loss;
 use crate::state::Frame;
@@ -30,7 +30,7 @@ pub fn is_short(config: Config, packet: usize, collecting: usize) -> bool
 
 // Refusals 20, 21 and 22; 0 for none.
 fn refusal(st: State, packet: usize, collecting: usize) -> u8
-    ensures { λ r. ⌜ r ≡ refusalOf st packet collecting ⌝ }
+    ensures { λ r. ⌜ r ≡ slotRefusal st packet collecting ⌝ }
 {
     let frame = st.frame;
     if 120 <= frame.at {

@@ -1,6 +1,6 @@
 // Start: a fresh receiver, or refusals 1 to 4.
 ghost use mathlib.Core.Path.{_≡_};
-ghost use Rattle.receiver.specs.Start.{twice, freshState, refusalOf, startOf};
+ghost use Rattle.receiver.specs.Start.{twice, freshState, startRefusal, startOf};
 use crate::answer::Called;
 use crate::state::Frame;
 use crate::state::State;
@@ -33,7 +33,7 @@ fn has_twice(watch: Watch, n: usize) -> bool
 }
 
 fn refusal(config: Config) -> u8
-    ensures { λ r. ⌜ r ≡ refusalOf config ⌝ }
+    ensures { λ r. ⌜ r ≡ startRefusal config ⌝ }
 {
     let watch = config.watch;
     let n = watch.n;

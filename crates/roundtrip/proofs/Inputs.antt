@@ -15,7 +15,7 @@ use Rattle.tlv.specs.Run.{
 }
 use Rattle.reassembly.specs.declared.config.Config.{Config}
 use Rattle.reassembly.specs.declared.unit.Unit.{Unit}
-use Rattle.reassembly.specs.Run.{Input, Event, Line, step, withLine, run}
+use Rattle.reassembly.specs.Run.{Input, Event, Lane, step, withLane, run}
 use Rattle.packer.specs.Pieces.{pieces, pieceAt, withPsn}
 use Rattle.packer.specs.Reads.{ReadAs, AllRead}
 use Rattle.packer.specs.Rejoins.{inputAt, inputsFrom, inputs as inputsOf}
@@ -130,16 +130,16 @@ module _ {A : Type 0} (cfg : Config) where
       ∙ rw (as-input r (p .labels), counted-brings ps)
 
   -- where nothing is noted, the account is what joining makes of them
-  read-run : (es : List (Slot-event A)) (xs : List (List A × Input)) (r : Read) (f : ℕ → Line (List A)) (a : List A) → Quiet r
-      → ((h : ℕ → Line (List A)) → events cfg h es ≡ run (cfg .limit) h xs)
-      → afterRead cfg r f a .events ++ events cfg (afterRead cfg r f a .lines) es ≡ run (cfg .limit) f (asInput r a ++ xs)
+  read-run : (es : List (Slot-event A)) (xs : List (List A × Input)) (r : Read) (f : ℕ → Lane (List A)) (a : List A) → Quiet r
+      → ((h : ℕ → Lane (List A)) → events cfg h es ≡ run (cfg .limit) h xs)
+      → afterRead cfg r f a .events ++ events cfg (afterRead cfg r f a .lanes) es ≡ run (cfg .limit) f (asInput r a ++ xs)
   read-run es xs silent f a q ih = ih f
   read-run es xs (noted n id) f a q ih = absurd q
   read-run es xs (input x) f a q ih =
       let s = step (cfg .limit) (f (x .place)) a x in
-      unfold run in ap (λ (l : List (Event (List A))). s .events ++ l) (ih (withLine (cfg .limit) f (x .place) (s .line)))
+      unfold run in ap (λ (l : List (Event (List A))). s .events ++ l) (ih (withLane (cfg .limit) f (x .place) (s .lane)))
 
-  pub events-run : (es : List (Slot-event A)) → Slot-clean es → AllQuiet cfg (map bytesIn (packets es)) → (f : ℕ → Line (List A))
+  pub events-run : (es : List (Slot-event A)) → Slot-clean es → AllQuiet cfg (map bytesIn (packets es)) → (f : ℕ → Lane (List A))
       → events cfg f es ≡ run (cfg .limit) f (counted cfg es)
   unfolding events inputs
   events-run [] c q f = unfold run in refl

@@ -8,7 +8,7 @@ use Rattle.tlv.specs.Run.{Arrival, Labelled as Labelled-packet, searching, pack
 use Rattle.reassembly.specs.declared.config.Config.{Config}
 use Rattle.reassembly.specs.Channel.{unheard}
 use Rattle.reassembly.specs.Run.{fresh}
-use Rattle.packer.specs.Packer.{packOf, refusalOf, joined, run as packed-run}
+use Rattle.packer.specs.Packer.{packOf, packRefusal, joined, run as packed-run}
 use Rattle.receiver.specs.Start.{starts}
 use Rattle.cutter.proofs.Runs.{cut-each, cut-run}
 use Rattle.packer.proofs.PacketReads.{packets-read}
@@ -36,7 +36,7 @@ use Rattle.roundtrip.proofs.Units.{allInputs, AllStand, units-back}
 
 -- the packer takes a unit
 pack-one : (cfg : Config) (x : Parcel) → Sendable cfg x → cfg .cid ≤ 4095 → Packs cfg x
-unfolding packOf refusalOf packed-run
+unfolding packOf packRefusal packed-run
 pack-one cfg x s c out room =
     let z : x .m ≡ 0 → ⊥ = λ e. omega (arith, s .positive) in
     rw (

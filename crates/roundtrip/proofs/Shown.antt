@@ -46,7 +46,7 @@ use Rattle.broadcast.specs.Accepts.{GoodFrame}
 use Rattle.broadcast.specs.Broadcast.{repeated}
 use Rattle.broadcast.proofs.Accepts.{accepts}
 use Rattle.mmtp.specs.Watch.{lookupOf, firstFrom}
-use Rattle.receiver.specs.Start.{before, twiceBelow, twice, refusalOf, Starts, starts as start-keeps}
+use Rattle.receiver.specs.Start.{before, twiceBelow, twice, startRefusal, Starts, starts as start-keeps}
 use Rattle.roundtrip.specs.Sending.{allPackets, padded}
 use Rattle.roundtrip.specs.RoundTrip.{runOf}
 use Rattle.roundtrip.specs.Example.{config, units, gaps}
@@ -169,7 +169,7 @@ unfolding frame
 whole-frame = refl
 
 keeps : Starts config
-unfolding refusalOf twice twiceBelow before lookupOf firstFrom
+unfolding startRefusal twice twiceBelow before lookupOf firstFrom
 keeps = start-keeps config refl
 
 pub comes-back : ComesBack

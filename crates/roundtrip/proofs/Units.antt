@@ -12,7 +12,7 @@ use Rattle.mmtp.specs.Watch.{lookupOf, lookup-at}
 use Rattle.reassembly.specs.declared.config.Config.{Config}
 use Rattle.reassembly.specs.declared.channel.Channel.{Channel}
 use Rattle.reassembly.specs.declared.channel.Phase.the-variants.{Unheard, Idle}
-use Rattle.reassembly.specs.Run.{Input, unit, Line, run, linesAfter}
+use Rattle.reassembly.specs.Run.{Input, unit, Lane, run, lanesAfter}
 use Rattle.reassembly.proofs.Runs.{run-append}
 use Rattle.packer.specs.Pieces.{withPsn}
 use Rattle.packer.specs.Rejoins.{inputs, Ready, unheard, idle}
@@ -57,7 +57,7 @@ module _ (cfg : Config) where
       ifSo (eqb (v .unit .«packet_id») id)
       ((ch .phase ≡ Idle) × (ch .last ≡ withPsn (v .unit) (pieceCount v - 1) .psn)) (Stands vs id ch)
 
-  abbrev pub AllStand : {A : Type 0} → List Parcel → (ℕ → Line A) → Type 0
+  abbrev pub AllStand : {A : Type 0} → List Parcel → (ℕ → Lane A) → Type 0
   AllStand sent f = (id k : ℕ) → lookupOf (cfg .watch) id ≡ At k → Stands sent id (f k .channel)
 
   -- it is ready for a unit that follows them
@@ -74,7 +74,7 @@ module _ (cfg : Config) where
       go false ih h s = ih h s
 
   -- and so are all packet_ids after it
-  module _ {A : Type 0} (sent : List Parcel) (u : Parcel) (f g : ℕ → Line A) (place : ℕ)
+  module _ {A : Type 0} (sent : List Parcel) (u : Parcel) (f g : ℕ → Lane A) (place : ℕ)
       (at : lookupOf (cfg .watch) (u .unit .«packet_id») ≡ At place) (phase : g place .channel .phase ≡ Idle)
       (last : g place .channel .last ≡ withPsn (u .unit) (pieceCount u - 1) .psn)
       (others : (k : ℕ) → (k ≡ place → ⊥) → g k ≡ f k) where
@@ -97,7 +97,7 @@ module _ (cfg : Config) where
         go false q = rw (others k (apart (eqb-false _ _ q))) (s id k e)
 
   -- the units come back, in order, with nothing else
-  pub units-back : {A : Type 0} (sent us : List Parcel) (h : AllSendable cfg us) → Consecutive sent us → (f : ℕ → Line A)
+  pub units-back : {A : Type 0} (sent us : List Parcel) (h : AllSendable cfg us) → Consecutive sent us → (f : ℕ → Lane A)
       → AllStand sent f → (xs : List (A × Input)) → map (λ (x : A × Input). x .1) xs ≡ allInputs us h
       → map strip (run (cfg .limit) f xs) ≡ map (λ (u : Parcel). shown-unit (contentOf u)) us
   unfolding allInputs
@@ -110,7 +110,7 @@ module _ (cfg : Config) where
       let p = split (λ (x : A × Input). x .1) (inputs (u .unit) k (u .m) (u .bytes)) (allInputs us (h .1)) xs e in
       let r = unit-rejoined A (cfg .limit) k (u .m) (u .unit) (u .bytes) f (p .front) (h .0 .packable .psns) (h .0 .joins)
       (ready sent u (f k .channel) (c .0) (s (u .unit .«packet_id») k (h .0 .watched))) (p .front-is) in
-      let g : ℕ → Line A = linesAfter (cfg .limit) f (p .front) in
+      let g : ℕ → Lane A = lanesAfter (cfg .limit) f (p .front) in
       let t = stand-on sent u f g k (h .0 .watched) (r .phase) (r .last) (r .others) s in
       let i = units-back (u ∷ sent) us (h .1) (c .1) g t (p .back) (p .back-is) in
       rw (← p .whole, run-append A (cfg .limit) f (p .front) (p .back) .0, r .events)

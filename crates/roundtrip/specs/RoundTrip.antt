@@ -9,7 +9,7 @@ use Rattle.tlv.specs.Run.{Slot}
 use Rattle.reassembly.specs.declared.config.Config.{Config}
 use Rattle.receiver.specs.Start.{startOf}
 use Rattle.packer.specs.Packer.{joined}
-use Rattle.cutter.specs.Slot.{unlisted, slotAt, pointed, slotOf}
+use Rattle.cutter.specs.Slot.{unlisted, slotAt, pointed, slotCut}
 use Rattle.cutter.specs.Claims.{slotsFrom}
 use Rattle.broadcast.specs.Drains.{unit}
 use Rattle.broadcast.specs.Calls.{Made}
@@ -28,7 +28,7 @@ pub record Concluded (cfg : Config) (us : List Parcel) (gaps : List (List (List 
   pub packs : AllPack cfg us
   -- the cutter takes the run, and cuts each of its n slots
   pub cuts : (s : ℕ) (out : List ℕ) → s < n → length out ≡ l
-      → slotOf (runOf cfg us gaps) l s out ≡ (pointed (slotAt (runOf cfg us gaps) l s), slotAt (runOf cfg us gaps) l s .bytes)
+      → slotCut (runOf cfg us gaps) l s out ≡ (pointed (slotAt (runOf cfg us gaps) l s), slotAt (runOf cfg us gaps) l s .bytes)
   -- these n slots, with the cutter's pointers, are in order all own live slots of some frames, of the last of which perhaps only
   -- the first slots are read, as in demand 3's undamaged reading, with any memories, and none of its own calls is refused: then
   -- each unit is shown with packet_id, kind, first psn, MPU number, fields and the bytes from show, in order, and no note

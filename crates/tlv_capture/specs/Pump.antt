@@ -8,7 +8,7 @@ use lib.Dec.{eqb, ltb}
 use Rattle.wire.specs.Memory.{partOf}
 use Rattle.capture.specs.declared.session.Session.{Session}
 use Rattle.capture.specs.Session.{isEnded}
-use Rattle.capture.specs.Feed.{Left, fedOf}
+use Rattle.capture.specs.Feed.{FeedLeaves, fedOf}
 use Rattle.capture.specs.Steps.{Poured, pouredOf}
 use Rattle.tlv_capture.specs.declared.pump.Pumped.{Pumped}
 
@@ -43,7 +43,7 @@ Refilled p room r =
 abbrev pub anyOf : ℕ → ℕ → Bool
 anyOf a b = cond (eqb a 0) (not (eqb b 0)) true
 
-abbrev pub fedBy : Pumped → ℕ → Left → Pumped × List ℕ × List ℕ × List ℕ × List ℕ
+abbrev pub fedBy : Pumped → ℕ → FeedLeaves → Pumped × List ℕ × List ℕ × List ℕ × List ℕ
 fedBy p left f =
     let r = f .0 in (
       record {

@@ -1,5 +1,5 @@
 -- Why `take` meets its contract: the note, that of a unit above R, a unit, in this order.
-use Rattle.delivery.specs.Queue.{taken-note, taken-give, takenOf}
+use Rattle.delivery.specs.Queue.{taken-note, taken-give, eventTaken}
 use mathlib.Core.Path.{sym, _∙_}
 use borrow.Author.Needs.{needs}
 use Rattle.delivery.proofs.queue.take.Statement.{statement}
@@ -12,7 +12,7 @@ number-requires : tie.Need-number-requires
 number-requires c κs = search needs
 
 returns-2 : tie.Need-returns-2
-unfolding takenOf
+unfolding eventTaken
 returns-2 c = rw (c .before .before .if1 .left, c .before .if2 .taken, c .number .ensures)
 
 take-unit-requires : tie.Need-take-unit-requires

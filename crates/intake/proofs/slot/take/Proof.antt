@@ -2,7 +2,7 @@
 use mathlib.Core.Path.{sym, _∙_, ap}
 use denote.Ref.{now}
 use borrow.Author.Tests.{not-true, not-false}
-use Rattle.intake.specs.Slot.{Out, copied, taken-unsound, taken-searching, taken-held}
+use Rattle.intake.specs.Slot.{IntakeOut, copied, taken-unsound, taken-searching, taken-held}
 use borrow.Author.Needs.{needs}
 use Rattle.intake.proofs.slot.take.Statement.{statement}
 use Rattle.intake.proofs.slot.take.Tie as tie
@@ -45,7 +45,7 @@ returns-2 c =
     let s = sym (d .before .before .is-sound .ensures) ∙ not-false _ (d .before .if1 .left) in
     let b = now (d .before .before .before .before .before .args .bytes) in
     rw (c .before .before .copy-at2 .ensures)
-    (ap (λ (q : Out). (q .0, copied (q .1) b)) (c .before .before .before .before .before .before .resume-slot .ensures)
+    (ap (λ (q : IntakeOut). (q .0, copied (q .1) b)) (c .before .before .before .before .before .before .resume-slot .ensures)
     ∙ sym (taken-held _ _ _ _ s (d .if2 .taken)))
 
 copy-at-requires-3 : tie.Need-copy-at-requires-3

@@ -7,7 +7,7 @@ use lib.ListN.{length, drop, length-drop}
 use borrow.Author.Needs.{needs}
 use borrow.Author.Tests.{not-true, not-false}
 use Rattle.wire.specs.Memory.{slice-rest}
-use Rattle.linked.specs.Calls.{callComes, Left, stepOf, after, callsBy, callsOf}
+use Rattle.linked.specs.Calls.{callComes, CallLeaves, oneCall, after, callsBy, callsOf}
 use Rattle.linked.specs.Calls.{step-within, calls-none, calls-zero, after-none, after-last, calls-turn}
 use Rattle.linked.proofs.calls.ixohuemil_calls.Statement.{statement}
 use Rattle.linked.proofs.calls.ixohuemil_calls.Tie as tie
@@ -33,7 +33,7 @@ comes e =
 -- what it leaves
 left : (m : tie.After-make-call Inv-loop μ-loop) → let l = m .before .before .before .before .before .before .before .before in
     (m .make-call .result, m .make-call .last .1 .1 .0, m .make-call .last .1 .1 .1 .0)
-    ≡ stepOf (l .loop .session) (l .loop .packet) (l .loop .collecting)
+    ≡ oneCall (l .loop .session) (l .loop .packet) (l .loop .collecting)
     (drop (l .loop .read) (l .before .before .before .before .before .args .capture .now))
 left m =
     let l = m .before .before .before .before .before .before .before .before in
@@ -47,7 +47,7 @@ within m =
     let b = l .before .before .before .before .before .args .capture .now in
     let h = comes (m .before .before .before .before) in
     let w = step-within (l .loop .session) (l .loop .packet) (l .loop .collecting) (drop (l .loop .read) b) h in
-    let e = ap (λ (x : Left). x .0 .read) (left m) in
+    let e = ap (λ (x : CallLeaves). x .0 .read) (left m) in
     omega (arith, w, e, length-drop (l .loop .read) b, l .loop .inv .0)
 
 begin-requires : tie.Need-begin-requires Inv-loop μ-loop

@@ -3,16 +3,8 @@ use mathlib.Core.Path.{sym, _∙_, ap}
 use native.Mathlib.Omega.{arith}
 use borrow.Author.Tests.{not-true, not-false}
 use Rattle.receiver.specs.State.{accepted, withIntake}
-use Rattle.intake.specs.Slot.{Out}
-use Rattle.receiver.specs.Slot.{
-  Out as CallOut,
-  ready,
-  right-length,
-  slot-refused,
-  slot-wrong-length,
-  slot-not-own,
-  slot-own,
-}
+use Rattle.intake.specs.Slot.{IntakeOut}
+use Rattle.receiver.specs.Slot.{SlotOut, ready, right-length, slot-refused, slot-wrong-length, slot-not-own, slot-own}
 use borrow.Author.Needs.{needs}
 use Rattle.receiver.proofs.slot.slot.Statement.{statement}
 use Rattle.receiver.proofs.slot.slot.Tie as tie
@@ -95,7 +87,7 @@ returns-4 c =
     let z = sym (d .before .refusal .ensures) ∙ d .if1 .left in
     let l = sym (w .before .is-wrong .ensures) ∙ w .if2 .left in
     let n = o .before .before .count .ensures in
-    let f : Out → CallOut = λ q. (accepted (withIntake (o .before .before .count .result) (q .0)), q .1) in
+    let f : IntakeOut → SlotOut = λ q. (accepted (withIntake (o .before .before .count .result) (q .0)), q .1) in
     rw (c .settle .ensures)
     (ap f (c .before .before .before .take .ensures) ∙ rw n (sym (slot-own _ _ _ _ z l (not-false _ (o .if3 .left)))))
 

@@ -3,24 +3,24 @@ use mathlib.Core.Path.{_≡_, sym, _∙_}
 use mathlib.Core.Bool.{cond, _||_}
 use lib.Dec.{ltb}
 use borrow.Author.Tests.{lt-ltb, le-ltb}
-use Rattle.receiver.specs.Start.{refusalOf}
+use Rattle.receiver.specs.Start.{startRefusal}
 use borrow.Author.Needs.{needs}
 use Rattle.receiver.proofs.start.refusal.Statement.{statement}
 use Rattle.receiver.proofs.start.refusal.Tie as tie
 
 returns : tie.Need-returns
-unfolding refusalOf
+unfolding startRefusal
 returns c = rw (lt-ltb _ _ (c .if1 .taken))
 
 returns-2 : tie.Need-returns-2
-unfolding refusalOf
+unfolding startRefusal
 returns-2 c = rw (le-ltb _ _ (c .before .if1 .left), lt-ltb _ _ (c .if2 .taken))
 
 has-twice-requires : tie.Need-has-twice-requires
 has-twice-requires c κs = search needs
 
 returns-3 : tie.Need-returns-3
-unfolding refusalOf
+unfolding startRefusal
 returns-3 c =
     let h = c .before .before in
     rw (le-ltb _ _ (h .before .if1 .left), le-ltb _ _ (h .if2 .left), sym (c .before .has-twice .ensures) ∙ c .if3 .taken)
@@ -28,8 +28,8 @@ returns-3 c =
 -- the tests of n and of the ids are passed
 past-ids : (d : tie.Else3)
     → let c = d .before .before .before .before .before .args .config in
-    refusalOf c ≡ cond (ltb 4095 (c .cid)) 3 (cond (ltb (c .limit) 1 || ltb 1048576 (c .limit)) 4 0)
-unfolding refusalOf
+    startRefusal c ≡ cond (ltb 4095 (c .cid)) 3 (cond (ltb (c .limit) 1 || ltb 1048576 (c .limit)) 4 0)
+unfolding startRefusal
 past-ids d =
     let h = d .before .before in
     rw (le-ltb _ _ (h .before .if1 .left), le-ltb _ _ (h .if2 .left), sym (d .before .has-twice .ensures) ∙ d .if3 .left)
