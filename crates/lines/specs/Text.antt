@@ -4,7 +4,7 @@ use mathlib.Core.Path.{_≡_, refl, _∙_, ap}
 use mathlib.Core.List.{List, [], _∷_, _++_}
 use native.Mathlib.Nat.{add-assoc, add-zero}
 use native.Mathlib.Omega.{arith}
-use lib.ListN.{length, set, length-append}
+use lib.ListN.{length, set, length-append, length-set}
 use Rattle.wire.specs.Memory.{pasted, pasted-zero, pasted-one, pasted-append, length-pasted}
 
 -- the place behind the text, and the memory with the text in it from `at` on
@@ -55,9 +55,21 @@ module _ (out o : List ℕ) (at r : ℕ) (s : List ℕ) (e : (r, o) ≡ wrote ou
   pub written-length : at + length s ≤ length out → length o ≡ length out
   written-length h = ap (λ (x : ℕ × List ℕ). length (x .1)) e ∙ length-wrote out at s h
 
+  -- room is left behind it
+  pub written-room : (k : ℕ) → at + length s + k ≤ length out → r + k ≤ length o
+  written-room k h = let l = written-length (omega arith) in let i = written-end in omega arith
+
   pub written-more : (o' : List ℕ) (r' : ℕ) (t : List ℕ) → (r', o') ≡ wrote o r t → at + length s + length t ≤ length out
       → (r', o') ≡ wrote out at (s ++ t)
   written-more o' r' t f h = f ∙ ap (λ (x : ℕ × List ℕ). wrote (x .1) (x .0) t) e ∙ wrote-append out at s t h
+
+-- two bytes
+pub wrote-two : (out : List ℕ) (at a b : ℕ) → at + 2 ≤ length out → (at + 2, set (set out at a) (at + 1) b) ≡ wrote out at (a ∷ b ∷ [])
+wrote-two out at a b h =
+    let e = wrote-byte out at a (omega arith) in
+    let i : at + 1 + 1 ≡ at + 2 = omega arith in
+    let w = wrote-byte (set out at a) (at + 1) b (rw length-set (omega arith)) in
+    written-more out _ at _ (a ∷ []) e _ _ (b ∷ []) (rw i at w) (omega arith)
 
 -- the text was written, and is at most k bytes long
 pub record Put (out : List ℕ) (at : ℕ) (s : List ℕ) (k r : ℕ) (o : List ℕ) : Type 0 where
