@@ -70,7 +70,7 @@ use Rattle.receiver.specs.Start.{startRefusal, startOf, twiceBelow, twice, befo
 use Rattle.receiver.specs.Slot.{wrongLength}
 use Rattle.broadcast.specs.Account.{readOf, events, account}
 use Rattle.broadcast.specs.Carried.{inputs, rowInputs, carriedUnits, intactUnits, contents, Few}
-use Rattle.intake.specs.Slot.{heldBytes}
+use Rattle.intake.specs.Slot.{packetMemory, heldBytes}
 use Rattle.delivery.specs.declared.event.Event.the-variants.{Nothing}
 use Rattle.receiver.specs.declared.state.State.{State}
 use Rattle.receiver.specs.Next.{nextOf}
@@ -316,7 +316,7 @@ pub broadcast-claims : BroadcastClaims
 broadcast-claims = (
   block-layout,
   met,
-  (length-replicate {A = ℕ} 21433 0, length-replicate {A = ℕ} 200 0),
+  (length-replicate {A = ℕ} packetMemory 0, length-replicate {A = ℕ} 200 0),
   shows-all none _ (accounts .0),
   shows-all slotLost _ (accounts .1),
   shows-all frameLost _ (accounts .2),

@@ -18,6 +18,7 @@ use Rattle.reassembly.specs.Channel.{unheard}
 use Rattle.reassembly.specs.Run.{Event as Account-event, note as account-note, unit as account-unit, fresh, Clean, units}
 use Rattle.receiver.specs.declared.state.State.{State}
 use Rattle.tmcc.specs.Block.{decodeOf}
+use Rattle.intake.specs.Slot.{packetMemory}
 use Rattle.receiver.specs.State.{accepted as acceptedAs, refused as refusedWith, withFrame}
 use Rattle.receiver.specs.Frame.{frameBusy, frameOf}
 use Rattle.receiver.specs.Slot.{slotRefusal, wrongLength, slotOf, slotTaken, dueLength, dueOwn, duePointers, ready}
@@ -87,7 +88,7 @@ fresh-lane limit c k h =
     subst (λ (ch : Channel). LaneIs {A = List (ℕ × ℕ)} ch k limit c fresh) (sym (getD-replicate 16 k unheard unheard h)) (refl, tt)
 
 -- a fresh receiver stands for the account's beginning
-pub start-at : (cfg : Config) (p c : List ℕ) → startOf cfg .refusal ≡ 0 → 21433 ≤ length p → cfg .watch .n * cfg .limit ≤ length c
+pub start-at : (cfg : Config) (p c : List ℕ) → startOf cfg .refusal ≡ 0 → packetMemory ≤ length p → cfg .watch .n * cfg .limit ≤ length c
     → At {A = ℕ × ℕ} cfg (started cfg p c) searching (λ k. fresh) blankLayout 120
 unfolding freshState unheard
 start-at cfg p c e hp hc =
@@ -139,7 +140,7 @@ slot-due st p c d e = go (eqb (slotRefusal st (length p) (length c)) 0) refl e
 -- a slot that is due after the first frame's call
 pub slot-tells : (cfg : Config) (p c b : List ℕ) → startOf cfg .refusal ≡ 0
     → (let m = did (frame b) (started cfg p c) .machine in slotRefusal (m .state) (length (m .packet)) (length (m .collecting)) ≡ 0)
-    → (21433 ≤ length p) × (cfg .watch .n * cfg .limit ≤ length c)
+    → (packetMemory ≤ length p) × (cfg .watch .n * cfg .limit ≤ length c)
 unfolding did freshState
 slot-tells cfg p c b e h =
     let st = startOf cfg .state in
@@ -150,7 +151,7 @@ slot-tells cfg p c b e h =
 -- the first slot of an undamaged reading was accepted
 enough : (cfg : Config) (f : Frame) (fs : List Frame) (p c : List ℕ) (xs : List Made) → startOf cfg .refusal ≡ 0 → length (f .slots) ≡ 120
     → Reads cfg (f ∷ fs) none p c xs → refusedOf cfg (f ∷ fs) none p c xs ≡ []
-    → (21433 ≤ length p) × (cfg .watch .n * cfg .limit ≤ length c)
+    → (packetMemory ≤ length p) × (cfg .watch .n * cfg .limit ≤ length c)
 unfolding reading slotsTodo
 enough cfg f fs p c xs e n h q = go (f .slots) n h q
   where
@@ -163,7 +164,7 @@ enough cfg f fs p c xs e n h q = go (f .slots) n h q
     go : (ds : List (List ℕ)) → length ds ≡ 120
         → Follows (call (frame (f .block)) ∷ (slotsTodo (λ s. false) 0 ds ++ us)) m xs
         → refusals (call (frame (f .block)) ∷ (slotsTodo (λ s. false) 0 ds ++ us)) m xs ≡ []
-        → (21433 ≤ length p) × (cfg .watch .n * cfg .limit ≤ length c)
+        → (packetMemory ≤ length p) × (cfg .watch .n * cfg .limit ≤ length c)
     go [] n h q = absurd (omega arith)
     go (d ∷ ds) n h q =
         let ts = drain ∷ (slotsTodo (λ s. false) 1 ds ++ us) in

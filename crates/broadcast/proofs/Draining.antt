@@ -18,7 +18,7 @@ use Rattle.intake.specs.declared.held.Cursor.{Cursor}
 use Rattle.receiver.specs.declared.state.Frame.{Frame}
 use Rattle.delivery.specs.declared.queue.Queue.{Queue}
 use Rattle.receiver.specs.declared.state.State.{State}
-use Rattle.intake.specs.Slot.{holding}
+use Rattle.intake.specs.Slot.{packetMemory, holding}
 use Rattle.receiver.specs.State.{withSlot, withQueue}
 use Rattle.delivery.specs.Queue.{eventTaken}
 use Rattle.receiver.specs.Slot.{shortBy}
@@ -103,7 +103,7 @@ pub record Settles {A : Type 0} (cfg : Config) (fr : Frame) (p : List ℕ) (tl :
   pub tracks : Tracks cfg state p collecting tl f
 
 module _ {A : Type 0} (cfg : Config) (fr : Frame) (p : List ℕ)
-    (long : 21433 ≤ length p) (tl : Slot-state A) (f : ℕ → Lane (List A)) where
+    (long : packetMemory ≤ length p) (tl : Slot-state A) (f : ℕ → Lane (List A)) where
   abbrev Told : List Shown → Event → State → List ℕ → Type 0
   Told es Nothing st c = Paid cfg fr p es tl f st c
   Told es (Note n id) st c = First cfg fr p es tl f (note n id) st c

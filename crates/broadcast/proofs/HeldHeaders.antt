@@ -17,7 +17,7 @@ use Rattle.tlv.proofs.HeldGood.{step-held-good}
 use Rattle.reassembly.specs.declared.config.Config.{Config}
 use Rattle.intake.specs.declared.held.Cursor.{Cursor}
 use Rattle.intake.specs.declared.held.Held.{Held}
-use Rattle.intake.specs.Slot.{searching, holding, noted, heldBytes}
+use Rattle.intake.specs.Slot.{packetMemory, searching, holding, noted, heldBytes}
 use Rattle.delivery.specs.declared.event.Event.{Event}
 use Rattle.delivery.specs.declared.event.Event.the-variants.{Nothing, Note, Unit, Refused}
 use Rattle.delivery.specs.declared.cursor.Found.{Found}
@@ -146,7 +146,7 @@ module _ (st : State) (p : List ℕ) (k : Holds st p) where
   abbrev Both : SlotOut → Type 0
   Both r = Holds (r .0 .state) (r .1)
 
-  slot-taken : (o : Bool) (d : List ℕ) (t : Pointers) → st .owed ≡ false → 21433 ≤ length p → length d ≤ 5049
+  slot-taken : (o : Bool) (d : List ℕ) (t : Pointers) → st .owed ≡ false → packetMemory ≤ length p → length d ≤ 5049
       → Both (slotTaken o st p d t)
   unfolding counted
   slot-taken true d t e l n =

@@ -12,6 +12,7 @@ use Rattle.tmcc.specs.declared.layout.Pointers.{Pointers}
 use Rattle.tlv.specs.Run.{Stepped, State as Slot-state, step, given, lost}
 use Rattle.reassembly.specs.declared.config.Config.{Config}
 use Rattle.reassembly.specs.Run.{Lane}
+use Rattle.intake.specs.Slot.{packetMemory}
 use Rattle.receiver.specs.declared.state.Frame.{Frame}
 use Rattle.delivery.specs.declared.queue.Queue.{Queue}
 use Rattle.receiver.specs.declared.state.State.{State}
@@ -54,7 +55,7 @@ module _ {A : Type 0} (cfg : Config) where
       (w : Stepped A) → Tracks cfg st p c tl f → Reads st fr p r w
       → Settles cfg fr (r .1) (w .state) (lanesAfter cfg f (w .events)) (map strip (events cfg f (w .events))) (r .0) c
   reads-settles st fr p c tl f r w k d =
-      let long : 21433 ≤ length (r .1) = rw (d .same-length) (k .packet-long) in
+      let long : packetMemory ≤ length (r .1) = rw (d .same-length) (k .packet-long) in
       settle cfg fr (r .1) long (w .state) (lanesAfter cfg f (w .events))
       (map strip (events cfg f (w .events))) (r .0) c
       (record {

@@ -43,6 +43,7 @@ use Rattle.intake.specs.declared.held.Cursor.{Cursor}
 use Rattle.intake.specs.declared.held.Held.{Held}
 use Rattle.receiver.specs.declared.state.State.{State}
 use Rattle.intake.specs.Slot.{
+  packetMemory,
   searching,
   holding,
   noted,
@@ -353,7 +354,7 @@ from-counted st p r w x =
 pub own-slot : OwnSlot
 unfolding counted
 own-slot A a cfg st p c tl f k l d n t =
-    let m : 21433 ≤ length p = k .packet-long in
+    let m : packetMemory ≤ length p = k .packet-long in
     from-counted st p _ _ (own-reads a (counted st) p d t refl (omega arith) (omega arith) tl (k .held) l)
 
 pub lost-slot : LostSlot

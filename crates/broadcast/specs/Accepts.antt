@@ -6,6 +6,7 @@ use mathlib.Core.List.{List, [], _∷_, map}
 use lib.ListN.{length}
 use Rattle.tmcc.specs.Block.{decodeOf}
 use Rattle.reassembly.specs.declared.config.Config.{Config}
+use Rattle.intake.specs.Slot.{packetMemory}
 use Rattle.receiver.specs.Start.{Starts}
 use Rattle.broadcast.specs.Account.{account}
 use Rattle.broadcast.specs.Drains.{strip}
@@ -42,5 +43,5 @@ Accepts =
     -- lost of them
     (cfg : Config) → Starts cfg → (fs : List Frame) → AllGood (cfg .stream) fs → (d : Damage)
     -- packet memory of at least 21,433 bytes and collecting memory of at least n × R, whatever they hold at first
-    → (p c : List ℕ) → 21433 ≤ length p → cfg .watch .n * cfg .limit ≤ length c
+    → (p c : List ℕ) → packetMemory ≤ length p → cfg .watch .n * cfg .limit ≤ length c
     → Accepted cfg fs d p c

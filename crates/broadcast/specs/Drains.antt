@@ -16,7 +16,7 @@ use Rattle.delivery.specs.declared.event.Event.the-variants.{Nothing, Note, Uni
 use Rattle.delivery.specs.declared.event.Given.{Given}
 use Rattle.intake.specs.declared.held.Held.{Held}
 use Rattle.receiver.specs.declared.state.State.{State}
-use Rattle.intake.specs.Slot.{noted, heldBytes}
+use Rattle.intake.specs.Slot.{packetMemory, noted, heldBytes}
 use Rattle.delivery.specs.Queue.{empty}
 use Rattle.receiver.specs.Next.{nextOf}
 use Rattle.receiver.specs.Show.{showOf}
@@ -62,7 +62,7 @@ LaneIs ch k limit c l = (l .channel ≡ ch) × OpenIs (ch .phase) k limit (ch .c
 -- the receiver's state and memories, nothing being owed, stand for the state of the slots and of all packet_ids
 pub record Tracks {A : Type 0} (cfg : Config) (st : State) (p c : List ℕ) (tl : Slot-state A) (f : ℕ → Lane (List A)) : Type 0 where
   pub config : st .config ≡ cfg
-  pub packet-long : 21433 ≤ length p
+  pub packet-long : packetMemory ≤ length p
   pub collecting-long : cfg .watch .n * cfg .limit ≤ length c
   pub places : cfg .watch .n ≤ 16
   pub channels : length (st .channels) ≡ 16

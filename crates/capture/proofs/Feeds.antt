@@ -16,10 +16,10 @@ use Rattle.capture.specs.declared.command.Letter.the-variants.{Start, Fr
 use Rattle.capture.specs.declared.session.Phase.{Phase}
 use Rattle.capture.specs.declared.session.Phase.the-variants.{Before, Reading, Ended}
 use Rattle.capture.specs.declared.session.Session.{Session}
-use Rattle.lines.specs.Line.{refusedLine, field-21}
+use Rattle.lines.specs.Line.{longestLine, refusedLine, field-21}
 use Rattle.lines.specs.Text.{wrote, wrote-none, wrote-end, length-wrote, wrote-append}
 use Rattle.capture.specs.Session.{busy, isReading, isEnded, inPhase, withState}
-use Rattle.capture.specs.Command.{letterOf, sizeOf, whole, size-by, slot-size-within, size-kept, size-grows, size-most}
+use Rattle.capture.specs.Command.{longestCommand, letterOf, sizeOf, whole, size-by, slot-size-within, size-kept, size-grows, size-most}
 use Rattle.capture.specs.Command.{size-none}
 use Rattle.capture.specs.Capture.{Done, fits, callOf, afterCall, settled, doneOf, lastLine, textOf}
 use Rattle.capture.specs.Steps.{roomy, actedOf, pouredOf}
@@ -74,7 +74,7 @@ module _ (block : List ℕ) (w : World) (r : Right block w) (l : w .read < lengt
   abbrev new : List ℕ
   new = take n (drop (w .read) block)
 
-  some : (1 ≤ n) × (w .held + n ≤ 65538) × (w .read + n ≤ length block) × (length d ≡ length (w .command))
+  some : (1 ≤ n) × (w .held + n ≤ longestCommand) × (w .read + n ≤ length block) × (length d ≡ length (w .command))
   some =
       let k = right-keeps block w r in
       let some = k .some in
@@ -144,28 +144,28 @@ module _ (block : List ℕ) (w : World) (h : w .held ≡ 0) (z : wholeSize (drop
         none = λ k. kept-none (w .command) 0 (omega arith) (omega (arith, size-none (heldOf (w .command) 0) refl));
       }
 
-refused-152 : (n : ℕ) → length (refusedLine n) ≤ 152
+refused-longest : (n : ℕ) → length (refusedLine n) ≤ longestLine
 unfolding refusedLine
-refused-152 n = rw length-append (omega (arith, field-21 n 10))
+refused-longest n = rw length-append (omega (arith, field-21 n 10))
 
 -- a line of a command is no longer than any other
-either-152 : (t : Bool) (x y : Done) → length (x .text) ≤ 152 → length (y .text) ≤ 152 → length (cond t x y .text) ≤ 152
-either-152 true x y h k = h
-either-152 false x y h k = k
+either-longest : (t : Bool) (x y : Done) → length (x .text) ≤ longestLine → length (y .text) ≤ longestLine → length (cond t x y .text) ≤ longestLine
+either-longest true x y h k = h
+either-longest false x y h k = k
 
-none-152 : length {A = ℕ} [] ≤ 152
-none-152 = omega arith
+none-longest : length {A = ℕ} [] ≤ longestLine
+none-longest = omega arith
 
-done-152 : (s : Session) (p c b : List ℕ) → length (doneOf s p c b .text) ≤ 152
+done-longest : (s : Session) (p c b : List ℕ) → length (doneOf s p c b .text) ≤ longestLine
 unfolding doneOf
-done-152 s p c b =
+done-longest s p c b =
     let l = letterOf (getD b 0 0) in
     let r = callOf l (s .state) p c b in
-    either-152 (fits (s .phase) l) (settled l (r .0) s (r .1)) (record { text = []; session = inPhase s Ended; packet = p })
-    (either-152 (eqb (r .0 .refusal) 0)
+    either-longest (fits (s .phase) l) (settled l (r .0) s (r .1)) (record { text = []; session = inPhase s Ended; packet = p })
+    (either-longest (eqb (r .0 .refusal) 0)
     (record { text = []; session = afterCall l (withState s (r .0 .state)); packet = r .1 })
     (record { text = refusedLine (r .0 .refusal); session = inPhase (withState s (r .0 .state)) Ended; packet = r .1 })
-    none-152 (refused-152 (r .0 .refusal))) none-152
+    none-longest (refused-longest (r .0 .refusal))) none-longest
 
 -- a session that has ended gives its last line
 pub ended-text : (s : Session) (p c b : List ℕ) → isEnded (s .phase) ≡ true → textOf s p c b ≡ lastLine (s .tally)
@@ -300,8 +300,8 @@ module _ (block : List ℕ) (w : World) (r : Right block w) (g : goes block w �
         let long = r .long in
         let k = tk .none h in
         let q = doneOf (w .session) (w .packet) (w .collecting) x in
-        let room = leb-true (w .written + 152) (length (w .out)) (free .0) in
-        let short = done-152 (w .session) (w .packet) (w .collecting) x in
+        let room = leb-true (w .written + longestLine) (length (w .out)) (free .0) in
+        let short = done-longest (w .session) (w .packet) (w .collecting) x in
         let o = wrote (w .out) (w .written) (q .text) in
         let e : o .0 ≡ w .written + length (q .text) = wrote-end (w .out) (w .written) (q .text) in
         let l : length (o .1) ≡ length (w .out) = length-wrote (w .out) (w .written) (q .text) (omega arith) in

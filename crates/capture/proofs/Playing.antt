@@ -11,7 +11,7 @@ use lib.Dec.{eqb}
 use Rattle.wire.specs.Memory.{pasted}
 use Rattle.lines.specs.Text.{wrote}
 use Rattle.capture.specs.Session.{busy}
-use Rattle.capture.specs.Command.{sizeOf, whole, size-none}
+use Rattle.capture.specs.Command.{longestCommand, sizeOf, whole, size-none}
 use Rattle.capture.specs.Capture.{lastLine, textOf, captureOf}
 use Rattle.capture.specs.Feed.{World, heldOf, keptOf, leftBy, entered, fedFrom, fed-long, kept-all, kept-none}
 use Rattle.capture.specs.Claims.{Right}
@@ -30,7 +30,7 @@ front out o t r e =
 pub record Good (x : Player) : Type 0 where
   pub part : (x .held ≡ 0 → ⊥) → x .held < sizeOf (heldOf (x .command) (x .held))
   pub held : x .held ≤ length (x .command)
-  pub long : 65538 ≤ length (x .command)
+  pub long : longestCommand ≤ length (x .command)
 
 -- the lines to come
 abbrev pub toCome : Player → List ℕ → List ℕ
@@ -117,7 +117,7 @@ idle-text y g i =
     ∙ text-step (y .session) (y .packet) (y .collecting) (heldOf (y .command) (y .held))
     ∙ rw (drain-idle (y .session) (y .packet) (y .collecting) i, part-read y g)
 
-pub first-good : (command p c : List ℕ) → 65538 ≤ length command → Good (first command p c)
+pub first-good : (command p c : List ℕ) → longestCommand ≤ length command → Good (first command p c)
 first-good command p c h = record { part = λ z. absurd (z refl); held = omega arith; long = h }
 
 pub play-claim : PlayClaim

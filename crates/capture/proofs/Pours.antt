@@ -13,13 +13,13 @@ use Rattle.receiver.specs.Next.{nextOf}
 use Rattle.capture.specs.declared.session.Session.{Session}
 use Rattle.lines.specs.Text.{wrote, wrote-none, wrote-end, length-wrote, wrote-append}
 use Rattle.capture.specs.Session.{isReading, busy, withState, withTally}
-use Rattle.lines.specs.Line.{isLine}
+use Rattle.lines.specs.Line.{longestLine, isLine}
 use Rattle.capture.specs.Waits.{waits}
 use Rattle.capture.specs.Capture.{Drained, behind, eventBy, eventLine, tallied, closed, drainedOf}
 use Rattle.capture.specs.Steps.{Poured, pouredAt, pourBy, roomy, pouredBy, pouredOf}
 use Rattle.capture.specs.Claims.{Pours, PourClaim}
 use Rattle.capture.specs.Drains.{drain-step, drain-idle}
-use Rattle.capture.proofs.Lines.{line-152}
+use Rattle.capture.proofs.Lines.{line-longest}
 
 -- nothing was written
 stays : (s : Session) (p c out : List ℕ) (at : ℕ) → at ≤ length out → Pours s p c out at (pouredAt s c (at, out))
@@ -40,7 +40,7 @@ behind-behind s t d = rw (append-assoc s t (d .text))
 module _ (s : Session) (p c out : List ℕ) (at : ℕ) (e : Event) (f : Session → List ℕ → List ℕ → ℕ → Poured)
     (b : let r = nextOf (s .state) p c in
     drainedOf s p c ≡ eventBy e (withState s (r .0 .state)) (r .1) (λ t d. drainedOf t p d))
-    (room : at + 152 ≤ length out) where
+    (room : at + longestLine ≤ length out) where
   abbrev next : Session
   next = withState s (nextOf (s .state) p c .0 .state)
 
@@ -55,7 +55,7 @@ module _ (s : Session) (p c out : List ℕ) (at : ℕ) (e : Event) (f : Session 
       (f after (nextOf (s .state) p c .1) (wrote out at line .1) (wrote out at line .0))
       → Pours s p c out at (pourBy e next (nextOf (s .state) p c .1) out at f)
   pours-on i w =
-      let n = line-152 (next .tally) e in
+      let n = line-longest (next .tally) e in
       let k = wrote-end out at line in
       let z = length-wrote out at line (omega arith) in
       let l = w .within in
@@ -69,7 +69,7 @@ module _ (s : Session) (p c out : List ℕ) (at : ℕ) (e : Event) (f : Session 
 
   pours-last : isLine e ≡ false → Pours s p c out at (pourBy e next (nextOf (s .state) p c .1) out at f)
   pours-last i =
-      let n = line-152 (next .tally) e in
+      let n = line-longest (next .tally) e in
       let q = drain-idle (closed after e) p (nextOf (s .state) p c .1) (closed-idle after e i) in
       rw i
       (record {
@@ -90,8 +90,8 @@ module _ (s : Session) (p c out : List ℕ) (at : ℕ) (e : Event) (f : Session 
       go false i = pours-last i
 
 module _ (s : Session) (p c out : List ℕ) (at : ℕ) (m : (busy s && roomy (length out) at) ≡ true) where
-  roomed : at + 152 ≤ length out
-  roomed = leb-true (at + 152) (length out) (and-eq-true-iff (busy s) _ .0 m .1)
+  roomed : at + longestLine ≤ length out
+  roomed = leb-true (at + longestLine) (length out) (and-eq-true-iff (busy s) _ .0 m .1)
 
   stepped : let r = nextOf (s .state) p c in
       drainedOf s p c ≡ eventBy (r .0 .event) (withState s (r .0 .state)) (r .1) (λ t d. drainedOf t p d)
@@ -100,7 +100,7 @@ module _ (s : Session) (p c out : List ℕ) (at : ℕ) (m : (busy s && roomy (le
   -- the place behind a line lies in the memory
   behind-line : (e : Event) → wrote out at (eventLine (s .tally) e) .0 ≤ length (wrote out at (eventLine (s .tally) e) .1)
   behind-line e =
-      let n = line-152 (s .tally) e in
+      let n = line-longest (s .tally) e in
       let h = roomed in
       rw (wrote-end out at (eventLine (s .tally) e), length-wrote out at (eventLine (s .tally) e) (omega arith)) (omega arith)
 

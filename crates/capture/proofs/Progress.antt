@@ -13,7 +13,7 @@ use Rattle.receiver.specs.Next.{nextOf}
 use Rattle.capture.specs.declared.session.Session.{Session}
 use Rattle.capture.specs.Session.{busy, withState, withTally}
 use Rattle.lines.specs.Text.{wrote}
-use Rattle.lines.specs.Line.{isLine}
+use Rattle.lines.specs.Line.{longestLine, isLine}
 use Rattle.capture.specs.Waits.{waits, next-falls}
 use Rattle.capture.specs.Capture.{eventLine, tallied}
 use Rattle.capture.specs.Steps.{Poured, pourBy, roomy, pouredBy, pouredOf, pour-step}
@@ -36,7 +36,7 @@ feed-gets-on s held command block p c out some room long idle on =
     let k = keptOf command held in
     let w : World = entered s k command p c out in
     let z : Wants w = kept-wants command held in
-    let g : goes block w ≡ true = rw (lt-ltb 0 (length block) some, le-leb 152 (length out) room, idle, on) in
+    let g : goes block w ≡ true = rw (lt-ltb 0 (length block) some, le-leb longestLine (length out) room, idle, on) in
     let t = turn-reads block w z some in
     let m = reads-more (length block - turnOf block w .read) block (turnOf block w) in
     rw (fed-long s held command block p c out long k refl (fed-turn block w z g)) (omega arith)

@@ -14,7 +14,7 @@ use Rattle.lines.specs.Text.{wrote}
 use Rattle.lines.specs.Line.{isLine}
 use Rattle.capture.specs.declared.session.Session.{Session}
 use Rattle.capture.specs.Session.{busy, isEnded, withState, withTally, freshSession}
-use Rattle.capture.specs.Command.{sizeOf}
+use Rattle.capture.specs.Command.{longestCommand, sizeOf}
 use Rattle.capture.specs.Waits.{waits, next-falls}
 use Rattle.capture.specs.Capture.{eventLine, tallied, lastLine, textOf, captureOf}
 use Rattle.capture.specs.Steps.{Poured, pourBy, roomy, actedOf, pouredBy, pouredOf}
@@ -99,7 +99,7 @@ module _ (block : List ℕ) where
       fed-still f (turnOf block w) (turn-wants block w) (omega arith))
       (λ m. m)
 
-module _ (command p c b out : List ℕ) (long : 65538 ≤ length command) where
+module _ (command p c b out : List ℕ) (long : longestCommand ≤ length command) where
   abbrev begins : World
   begins = entered freshSession 0 command p c out
 

@@ -5,7 +5,7 @@ use mathlib.Core.List.{List, _++_}
 use lib.ListN.{length, drop}
 use Rattle.capture.specs.declared.session.Session.{Session}
 use Rattle.lines.specs.Text.{wrote}
-use Rattle.capture.specs.Command.{sizeOf}
+use Rattle.capture.specs.Command.{longestCommand, sizeOf}
 use Rattle.capture.specs.Capture.{drainedOf, behind, textOf}
 use Rattle.capture.specs.Steps.{Poured, pouredOf}
 use Rattle.capture.specs.Feed.{World, heldOf, fedFrom}
@@ -24,7 +24,7 @@ PourClaim = (s : Session) (p c out : List ℕ) (at : ℕ) → at ≤ length out 
 pub record Right (block : List ℕ) (w : World) : Type 0 where
   pub part : (w .held ≡ 0 → ⊥) → w .held < sizeOf (heldOf (w .command) (w .held))
   pub held : w .held ≤ length (w .command)
-  pub long : 65538 ≤ length (w .command)
+  pub long : longestCommand ≤ length (w .command)
   pub read : w .read ≤ length block
   pub written : w .written ≤ length (w .out)
 

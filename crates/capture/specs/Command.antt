@@ -37,6 +37,10 @@ sizeBy Unknown b = 0
 unfoldable pub sizeOf : List ℕ → ℕ
 sizeOf b = sizeBy (letterOf (getD b 0 0)) b
 
+-- the longest command: S, its length, and 65,535 bytes
+abbrev pub longestCommand : ℕ
+longestCommand = 65538
+
 -- a command stands at the front, known and whole
 unfoldable pub whole : List ℕ → Bool
 whole b = not (eqb (sizeOf b) 0) && leb (sizeOf b) (length b)
@@ -73,10 +77,10 @@ module _ (b : List ℕ) where
       go true e = let l = ltb-true (length b) 3 e in omega (arith, slot-size-short l)
       go false e = ltb-false (length b) 3 e
 
-  pub slot-size-within : (3 ≤ slotSize b) × (slotSize b ≤ 65538)
+  pub slot-size-within : (3 ≤ slotSize b) × (slotSize b ≤ longestCommand)
   slot-size-within = go (ltb (length b) 3) refl
     where
-      go : (t : Bool) → ltb (length b) 3 ≡ t → (3 ≤ slotSize b) × (slotSize b ≤ 65538)
+      go : (t : Bool) → ltb (length b) 3 ≡ t → (3 ≤ slotSize b) × (slotSize b ≤ longestCommand)
       go true e = let l = slot-size-short (ltb-true (length b) 3 e) in (omega arith, omega arith)
       go false e = let l = slot-size-known (ltb-false (length b) 3 e) in (omega arith, omega arith)
 
@@ -140,10 +144,10 @@ front-whole b o h =
     let g = size-grows (take (sizeOf b) b) (drop (sizeOf b) b) (omega arith) in
     omega (arith, rw (take-append-drop (sizeOf b) b) at g)
 
-pub size-most : (b : List ℕ) → sizeOf b ≤ 65538
+pub size-most : (b : List ℕ) → sizeOf b ≤ longestCommand
 size-most b = go (letterOf (getD b 0 0)) refl
   where
-    go : (x : Letter) → letterOf (getD b 0 0) ≡ x → sizeOf b ≤ 65538
+    go : (x : Letter) → letterOf (getD b 0 0) ≡ x → sizeOf b ≤ longestCommand
     go Start e = rw (size-by b Start e) (omega arith)
     go Frame e = rw (size-by b Frame e) (omega arith)
     go LostFrame e = rw (size-by b LostFrame e) (omega arith)

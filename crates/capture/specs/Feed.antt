@@ -16,7 +16,7 @@ use Rattle.capture.specs.declared.feed.Fed.{Fed}
 use Rattle.capture.specs.declared.feed.Turn.{Turn}
 use Rattle.capture.specs.declared.session.Progress.{Progress}
 use Rattle.capture.specs.declared.session.Session.{Session}
-use Rattle.capture.specs.Command.{sizeOf, size-none, size-grows, size-kept, front-whole}
+use Rattle.capture.specs.Command.{longestCommand, sizeOf, size-none, size-grows, size-kept, front-whole}
 use Rattle.capture.specs.Session.{busy, isEnded}
 use Rattle.capture.specs.Steps.{roomy, actedOf, pouredOf}
 
@@ -36,7 +36,7 @@ keptOf command held =
 -- more bytes are wanted, and no command is longer than 65,538
 pub record Keeps (command : List ℕ) (held : ℕ) : Type 0 where
   pub some : 1 ≤ wantedOf (heldOf command held)
-  pub most : held + wantedOf (heldOf command held) ≤ 65538
+  pub most : held + wantedOf (heldOf command held) ≤ longestCommand
 
 -- they come from the block, as far as it has them
 unfoldable pub gatheredOf : List ℕ → ℕ → List ℕ → ℕ → Turn × List ℕ
@@ -145,7 +145,7 @@ entered s held command p c out =
 -- a block is fed; a command memory under 65,538 bytes is not used
 unfoldable pub fedOf : Session → ℕ → List ℕ → List ℕ → List ℕ → List ℕ → List ℕ → FeedLeaves
 fedOf s held command block p c out =
-    cond (ltb (length command) 65538) (leftBy (entered s held command p c out))
+    cond (ltb (length command) longestCommand) (leftBy (entered s held command p c out))
     (leftBy (fedFrom block (entered s (keptOf command held) command p c out)))
 
 -- Laws.
@@ -193,7 +193,7 @@ module _ (command : List ℕ) (held : ℕ) where
         let w = wanted-rest (heldOf command held) z in
         omega arith
 
-    pub keeps-all : held < sizeOf (heldOf command held) → sizeOf (heldOf command held) ≤ 65538 → Keeps command held
+    pub keeps-all : held < sizeOf (heldOf command held) → sizeOf (heldOf command held) ≤ longestCommand → Keeps command held
     keeps-all h m =
         let e : length (heldOf command held) ≡ held = length-take-le held command l in
         let z : length (heldOf command held) ≡ 0 → ⊥ =
@@ -407,9 +407,9 @@ module _ (s : Session) (read size written room : ℕ) (e : goesBy s read size wr
   goes-room = and-eq-true-iff (roomy room written) _ .0 (and-eq-true-iff (ltb read size) _ .0 e .1) .0
 
 -- what a turn takes stands within the memories
-module _ (command : List ℕ) (held : ℕ) (block : List ℕ) (read : ℕ) (k : Keeps command held) (m : 65538 ≤ length command) where
+module _ (command : List ℕ) (held : ℕ) (block : List ℕ) (read : ℕ) (k : Keeps command held) (m : longestCommand ≤ length command) where
   abbrev Within : Turn × List ℕ → Type 0
-  Within x = (x .0 .gathered ≤ 65538) × (length (x .1) ≡ length command)
+  Within x = (x .0 .gathered ≤ longestCommand) × (length (x .1) ≡ length command)
 
   gathered-within : Within (gatheredOf command held block read)
   unfolding gatheredOf
@@ -429,8 +429,8 @@ module _ (command : List ℕ) (held : ℕ) (block : List ℕ) (read : ℕ) (k : 
       (gatheredOf command held block read) (λ e. (omega arith, refl)) (λ e. gathered-within)
 
 pub taken-by : (command d : List ℕ) (held : ℕ) (block : List ℕ) (read : ℕ) (g : Turn) → (g, d) ≡ bytesTaken command held block read
-    → Keeps command held → read < length block → 65538 ≤ length command
-    → (1 ≤ g .took) × (read + g .took ≤ length block) × (g .gathered ≤ 65538) × (length d ≡ length command)
+    → Keeps command held → read < length block → longestCommand ≤ length command
+    → (1 ≤ g .took) × (read + g .took ≤ length block) × (g .gathered ≤ longestCommand) × (length d ≡ length command)
 taken-by command d held block read g e k l m =
     let s = rw (← e) at (taken-some command held block read (k .some) l) in
     let w = rw (← e) at (taken-within command held block read k m) in
@@ -456,11 +456,11 @@ turn-by block w g d e b q r p c o f k h = rw (← e, ← q, ← f, h)
 
 -- a command memory that is too short, and one that is long enough
 module _ (s : Session) (held : ℕ) (command block p c out : List ℕ) where
-  pub fed-short : length command < 65538 → fedOf s held command block p c out ≡ leftBy (entered s held command p c out)
+  pub fed-short : length command < longestCommand → fedOf s held command block p c out ≡ leftBy (entered s held command p c out)
   unfolding fedOf
   fed-short h = rw (lt-ltb _ _ h)
 
-  pub fed-long : 65538 ≤ length command → (k : ℕ) → k ≡ keptOf command held → {w : World}
+  pub fed-long : longestCommand ≤ length command → (k : ℕ) → k ≡ keptOf command held → {w : World}
       → fedFrom block (entered s k command p c out) ≡ w → fedOf s held command block p c out ≡ leftBy w
   unfolding fedOf
   fed-long h k e f = rw (le-ltb _ _ h, ← e, f)

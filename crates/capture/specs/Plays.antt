@@ -6,6 +6,7 @@ use mathlib.Core.Bool.{true, false}
 use mathlib.Core.List.{List, [], _++_}
 use lib.ListN.{length, take, drop}
 use Rattle.lines.specs.Text.{wrote}
+use Rattle.capture.specs.Command.{longestCommand}
 use Rattle.capture.specs.declared.session.Session.{Session}
 use Rattle.capture.specs.Session.{busy, isEnded, freshSession}
 use Rattle.capture.specs.Capture.{lastLine, captureOf}
@@ -49,7 +50,7 @@ first command p c = record { session = freshSession; held = 0; command = command
 -- once all bytes are read and nothing is owed, or the session has ended, the text with the last line is the capture's
 abbrev pub PlayClaim : Type 0
 PlayClaim =
-    (command p c b t : List ℕ) (y : Player) (l : List ℕ) → 65538 ≤ length command → Plays (first command p c) b t y l
+    (command p c b t : List ℕ) (y : Player) (l : List ℕ) → longestCommand ≤ length command → Plays (first command p c) b t y l
     → (busy (y .session) ≡ false → l ≡ [] → captureOf p c b ≡ t ++ lastLine (y .session .tally))
     × (isEnded (y .session .phase) ≡ true → captureOf p c b ≡ t ++ lastLine (y .session .tally))
 
@@ -65,4 +66,4 @@ pub record AtOnce (lines out : List ℕ) (f : FeedLeaves) : Type 0 where
 
 abbrev pub WholeClaim : Type 0
 WholeClaim =
-    (command p c b out : List ℕ) → 65538 ≤ length command → AtOnce (captureOf p c b) out (fed (first command p c) b out)
+    (command p c b out : List ℕ) → longestCommand ≤ length command → AtOnce (captureOf p c b) out (fed (first command p c) b out)

@@ -6,6 +6,8 @@ use mathlib.Core.Bool.{true, false}
 use mathlib.Core.List.{List}
 use mathlib.Core.Logic.{_⊎_}
 use lib.ListN.{length}
+use Rattle.lines.specs.Line.{longestLine}
+use Rattle.capture.specs.Command.{longestCommand}
 use Rattle.capture.specs.declared.session.Session.{Session}
 use Rattle.capture.specs.Session.{busy, isEnded}
 use Rattle.capture.specs.Waits.{waits}
@@ -16,7 +18,7 @@ use Rattle.capture.specs.Feed.{fedOf}
 -- next is owed, or the session has ended
 abbrev pub FeedGetsOn : Type 0
 FeedGetsOn =
-    (s : Session) (held : ℕ) (command block p c out : List ℕ) → 1 ≤ length block → 152 ≤ length out → 65538 ≤ length command
+    (s : Session) (held : ℕ) (command block p c out : List ℕ) → 1 ≤ length block → longestLine ≤ length out → longestCommand ≤ length command
     → busy s ≡ false → isEnded (s .phase) ≡ false → 1 ≤ fedOf s held command block p c out .0 .read
 
 -- next is not owed any more, as in a session that has ended, or less than n waits
@@ -26,5 +28,5 @@ Less p n w = (busy (w .0 .session) ≡ false) ⊎ (waits (w .0 .session .state) 
 -- so it is after pour, where next was owed and there was room for a line
 abbrev pub PourGetsOn : Type 0
 PourGetsOn =
-    (s : Session) (p c out : List ℕ) (at : ℕ) → busy s ≡ true → at + 152 ≤ length out
+    (s : Session) (p c out : List ℕ) (at : ℕ) → busy s ≡ true → at + longestLine ≤ length out
     → Less p (waits (s .state) p) (pouredOf s p c out at)

@@ -18,7 +18,7 @@ use Rattle.capture.specs.declared.session.Progress.{Progress}
 use Rattle.capture.specs.declared.session.Session.{Session}
 use Rattle.capture.specs.declared.session.Tally.{Tally}
 use Rattle.lines.specs.Text.{wrote, wrote-none}
-use Rattle.lines.specs.Line.{isLine, refusedLine}
+use Rattle.lines.specs.Line.{longestLine, isLine, refusedLine}
 use Rattle.capture.specs.Command.{letterOf}
 use Rattle.capture.specs.Session.{isReading, busy, inPhase, withState, withTally}
 use Rattle.capture.specs.Waits.{waits, next-falls, next-owes}
@@ -34,7 +34,7 @@ actedOf s p c b out at =
 
 -- there is room for a longest line
 abbrev pub roomy : ℕ → ℕ → Bool
-roomy size at = leb (at + 152) size
+roomy size at = leb (at + longestLine) size
 
 -- what calling next leaves: the session and the place behind the lines, collecting memory, and the lines in `out`
 abbrev pub Poured : Type 0

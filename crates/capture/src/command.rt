@@ -2,7 +2,7 @@
 ghost use mathlib.Core.Path.{_≡_};
 ghost use Prim.Native.Nat.{_≤_, _<_};
 ghost use lib.ListN.{length};
-ghost use Rattle.capture.specs.Command.{letterOf, slotSize, sizeOf, idsOf, configOf};
+ghost use Rattle.capture.specs.Command.{longestCommand, letterOf, slotSize, sizeOf, idsOf, configOf};
 use mmtp::watch::Watch;
 use reassembly::config::Config;
 use wire::field;
@@ -31,7 +31,7 @@ pub fn letter_of(b: u8) -> Letter
 
 // How many bytes S has, as far as its first bytes tell.
 fn slot_size(b: &[u8]) -> usize
-    ensures { λ r. ⌜ (r ≡ slotSize (now (b .entry))) × (r ≤ 65538) ⌝ }
+    ensures { λ r. ⌜ (r ≡ slotSize (now (b .entry))) × (r ≤ longestCommand) ⌝ }
 {
     if b.len() < 3 {
         return 3;
@@ -41,7 +41,7 @@ fn slot_size(b: &[u8]) -> usize
 
 // How many bytes the command has, as far as its first bytes tell; 0 where it is unknown.
 pub fn size(b: &[u8]) -> usize
-    ensures { λ r. ⌜ (r ≡ sizeOf (now (b .entry))) × (r ≤ 65538) ⌝ }
+    ensures { λ r. ⌜ (r ≡ sizeOf (now (b .entry))) × (r ≤ longestCommand) ⌝ }
 {
     if b.len() == 0 {
         return 0;

@@ -2,6 +2,8 @@
 ghost use mathlib.Core.Path.{_≡_};
 ghost use Prim.Native.Nat.{min, _+_, _≤_};
 ghost use lib.ListN.{length};
+ghost use Rattle.lines.specs.Line.{longestLine};
+ghost use Rattle.capture.specs.Command.{longestCommand};
 ghost use Rattle.capture.specs.Session.{isEnded};
 ghost use Rattle.capture.specs.Feed.{wantedOf, keptOf, Keeps, wholeSize, gatheredOf, bytesTaken, sourceOf, ranOf, goesBy, fedOf};
 use crate::act::act;
@@ -91,7 +93,7 @@ struct Turn {
 
 // The bytes that are wanted come to the command memory, as far as the block has them.
 fn gather(command: &mut [u8], held: usize, block: &[u8], read: usize) -> Turn
-    requires { ⌜ Keeps (now command) held × (65538 ≤ length (now command)) × (read ≤ length (now block)) ⌝ }
+    requires { ⌜ Keeps (now command) held × (longestCommand ≤ length (now command)) × (read ≤ length (now block)) ⌝ }
     ensures { λ r. ⌜ (r, now (command .exit)) ≡ gatheredOf (now (command .entry)) held (now (block .entry)) read ⌝ }
 {
     let most = wanted(&command[..held]);
@@ -106,7 +108,7 @@ fn gather(command: &mut [u8], held: usize, block: &[u8], read: usize) -> Turn
 
 // A command that stands whole in the block is taken from there; else bytes are gathered behind those that are held.
 fn take_bytes(command: &mut [u8], held: usize, block: &[u8], read: usize) -> Turn
-    requires { ⌜ Keeps (now command) held × (65538 ≤ length (now command)) × (read ≤ length (now block)) ⌝ }
+    requires { ⌜ Keeps (now command) held × (longestCommand ≤ length (now command)) × (read ≤ length (now block)) ⌝ }
     ensures { λ r. ⌜ (r, now (command .exit)) ≡ bytesTaken (now (command .entry)) held (now (block .entry)) read ⌝ }
 {
     if held != 0 {
@@ -148,7 +150,7 @@ fn run(
     out: &mut [u8],
     at: usize,
 ) -> Progress
-    requires { ⌜ (1 ≤ length (now b)) × (at + 152 ≤ length (now out)) ⌝ }
+    requires { ⌜ (1 ≤ length (now b)) × (at + longestLine ≤ length (now out)) ⌝ }
     ensures { λ r. ⌜ (r, now (packet .exit), now (collecting .exit), now (out .exit))
         ≡ ranOf session (now (b .entry)) (now (packet .entry)) (now (collecting .entry)) (now (out .entry)) at ⌝ }
 {

@@ -2,6 +2,7 @@
 ghost use mathlib.Core.Path.{_≡_};
 ghost use Prim.Native.Nat.{_+_, _≤_};
 ghost use lib.ListN.{length};
+ghost use Rattle.lines.specs.Line.{longestLine};
 ghost use Rattle.lines.specs.Text.{Put};
 ghost use Rattle.capture.specs.Session.{busy, withUnit, withState, withTally};
 ghost use Rattle.capture.specs.Capture.{eventLine, tallied, closed};
@@ -44,8 +45,8 @@ pub fn is_busy(session: Session) -> bool
 }
 
 fn put_event(out: &mut [u8], at: usize, tally: Tally, event: Event) -> usize
-    requires { ⌜ at + 152 ≤ length (now out) ⌝ }
-    ensures { λ r. ⌜ Put (now (out .entry)) at (eventLine tally event) 152 r (now (out .exit)) ⌝ }
+    requires { ⌜ at + longestLine ≤ length (now out) ⌝ }
+    ensures { λ r. ⌜ Put (now (out .entry)) at (eventLine tally event) longestLine r (now (out .exit)) ⌝ }
 {
     match event {
         Event::Nothing => at,

@@ -8,6 +8,7 @@ use Rattle.tmcc.specs.Layout.{blankLayout}
 use Rattle.tlv.specs.Run.{Arrival, searching}
 use Rattle.reassembly.specs.declared.config.Config.{Config}
 use Rattle.reassembly.specs.Run.{Content, Labelled, fresh}
+use Rattle.intake.specs.Slot.{packetMemory}
 use Rattle.receiver.specs.Start.{startOf}
 use Rattle.receiver.specs.Slot.{shortBy}
 use Rattle.capture.specs.declared.command.Letter.the-variants.{Start}
@@ -52,7 +53,7 @@ pub record Begins (b : List ℕ) : Type 0 where
 
 -- packet memory of 21,433 bytes at least, and collecting memory of n × R
 pub record Suffice (cfg : Config) (p c : List ℕ) : Type 0 where
-  pub packet : 21433 ≤ length p
+  pub packet : packetMemory ≤ length p
   pub collecting : cfg .watch .n * cfg .limit ≤ length c
 
 -- by the commands behind C, up to the first that is refused: the own live slots that arrive; the number of that refusal, if there

@@ -33,6 +33,10 @@ noted n = record { note = n; packet = 0; reading = false; at = 0; end = 0 }
 abbrev pub slotArea : ℕ
 slotArea = 16384
 
+-- and the longest has 5,049 bytes: "packet memory 21,433 bytes"
+abbrev pub packetMemory : ℕ
+packetMemory = 21433
+
 -- what next reads: the slot's note, the packet that it completed, then the packets from the top pointer on
 unfoldable pub cursorFrom : ℕ → ℕ → ℕ → ℕ → Cursor
 cursorFrom note packet top l =

@@ -7,7 +7,7 @@ ghost use Rattle.tlv.specs.declared.note.SlotNote.the-variants.{Unsound};
 ghost use Rattle.tlv.specs.Notes.{numberOf};
 ghost use Rattle.tlv.specs.Slot.{sound};
 ghost use Rattle.tlv.specs.Held.{continuationOf};
-ghost use Rattle.intake.specs.Slot.{searching, holding, noted, cursorFrom, readingFrom};
+ghost use Rattle.intake.specs.Slot.{packetMemory, searching, holding, noted, cursorFrom, readingFrom};
 ghost use Rattle.intake.specs.Slot.{heldBytes, heldLen, movedMem, continuedMem, resumedAs, resumedOf, intakeOf, lostOf};
 use crate::held::Cursor;
 use crate::held::Held;
@@ -153,7 +153,7 @@ pub(crate) fn extend_packet(n: usize, len: usize) -> Intake
 
 // A sound slot comes to held bytes.
 fn resume_slot(held: Held, packet: &mut [u8], bytes: &[u8], t: Pointers) -> Intake
-    requires { ⌜ (21433 ≤ length (now packet)) × (length (now bytes) ≤ 5049) × (sound (now bytes) (t .0) (t .1) ≡ true) ⌝ }
+    requires { ⌜ (packetMemory ≤ length (now packet)) × (length (now bytes) ≤ 5049) × (sound (now bytes) (t .0) (t .1) ≡ true) ⌝ }
     ensures { λ r. ⌜ (r, now (packet .exit)) ≡ resumedOf held (now (packet .entry)) (now (bytes .entry)) t ⌝ }
 {
     let len = bytes.len();
@@ -174,7 +174,7 @@ fn resume_slot(held: Held, packet: &mut [u8], bytes: &[u8], t: Pointers) -> Inta
 
 // An own live slot with its bytes.
 pub fn take(held: Held, packet: &mut [u8], bytes: &[u8], t: Pointers) -> Intake
-    requires { ⌜ (21433 ≤ length (now packet)) × (length (now bytes) ≤ 5049) ⌝ }
+    requires { ⌜ (packetMemory ≤ length (now packet)) × (length (now bytes) ≤ 5049) ⌝ }
     ensures { λ r. ⌜ (r, now (packet .exit)) ≡ intakeOf held (now (packet .entry)) (now (bytes .entry)) t ⌝ }
 {
     if !tlv::slot::is_sound(bytes, t.0, t.1) {

@@ -87,6 +87,10 @@ pub id-some : (n id : ℕ) → 51 < n → idText n id ≡ field id newline
 unfolding idText
 id-some n id h = rw (lt-leb _ _ h)
 
+-- the longest line's bytes
+abbrev pub longestLine : ℕ
+longestLine = 152
+
 -- how long each line is at most
 place-42 : (f s : ℕ) → length (placeText f s) ≤ 42
 unfolding placeText
@@ -106,9 +110,9 @@ id-21 n id = go (leb n 51)
     go true = omega arith
     go false = field-21 id 10
 
-pub unit-152 : (frame slot : ℕ) (g : Given) → length (unitLine frame slot g) ≤ 152
+pub unit-longest : (frame slot : ℕ) (g : Given) → length (unitLine frame slot g) ≤ longestLine
 unfolding unitLine
-unit-152 frame slot g =
+unit-longest frame slot g =
     simp length-append (omega (arith, place-42 frame slot, carried-84 (g .unit), field-21 (g .place .len) 10))
 
 pub note-89 : (frame slot n id : ℕ) → length (noteLine frame slot n id) ≤ 89

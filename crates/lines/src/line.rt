@@ -3,7 +3,7 @@ ghost use mathlib.Core.Path.{_≡_};
 ghost use Prim.Native.Nat.{_+_, _≤_};
 ghost use lib.ListN.{length};
 ghost use Rattle.lines.specs.Text.{Put};
-ghost use Rattle.lines.specs.Line.{isLine, field, placeText, carriedText, unitLine, idText, noteLine, refusedLine, endLine};
+ghost use Rattle.lines.specs.Line.{longestLine, isLine, field, placeText, carriedText, unitLine, idText, noteLine, refusedLine, endLine};
 use crate::decimal::put_decimal;
 use delivery::event::Event;
 use delivery::event::Given;
@@ -65,8 +65,8 @@ fn put_carried(out: &mut [u8], at: usize, unit: Unit) -> usize
 }
 
 pub fn put_unit(out: &mut [u8], at: usize, frame: u64, slot: u64, given: Given) -> usize
-    requires { ⌜ at + 152 ≤ length (now out) ⌝ }
-    ensures { λ r. ⌜ Put (now (out .entry)) at (unitLine frame slot given) 152 r (now (out .exit)) ⌝ }
+    requires { ⌜ at + longestLine ≤ length (now out) ⌝ }
+    ensures { λ r. ⌜ Put (now (out .entry)) at (unitLine frame slot given) longestLine r (now (out .exit)) ⌝ }
 {
     let word = put_place(out, at, frame, slot);
     let carried = put_word(out, word, b"unit ");

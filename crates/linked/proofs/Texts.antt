@@ -8,7 +8,8 @@ use borrow.Author.Tests.{leb-true, leb-false}
 use lib.ListN.{length, replicate, length-append, length-replicate}
 use lib.Dec.{leb}
 use Rattle.lines.specs.Text.{wrote, written-end, written-length, written-more}
-use Rattle.lines.specs.Line.{end-67}
+use Rattle.lines.specs.Line.{longestLine, end-67}
+use Rattle.capture.specs.Command.{longestCommand}
 use Rattle.capture.specs.Capture.{lastLine, captureOf}
 use Rattle.capture.specs.Steps.{roomy, finish-full, finish-line}
 use Rattle.capture.specs.Feed.{FeedLeaves}
@@ -32,7 +33,7 @@ module _ (lines out : List ℕ) (f : FeedLeaves) (a : AtOnce lines out f) where
 
       go : (t : Bool) → roomy (length (f .4)) (f .0 .written) ≡ t → TextBegins lines out (finishedBy f .0) (finishedBy f .3)
       go true r =
-          let room = leb-true (f .0 .written + 152) (length (f .4)) r in
+          let room = leb-true (f .0 .written + longestLine) (length (f .4)) r in
           let m = end-67 (f .0 .session .tally .frames) (f .0 .session .tally .units) (f .0 .session .tally .notes) in
           let w = wrote (f .4) (f .0 .written) last in
           let k = finish-line (f .0 .session .tally) (f .4) (f .0 .written) r in
@@ -45,7 +46,7 @@ module _ (lines out : List ℕ) (f : FeedLeaves) (a : AtOnce lines out f) where
             all = λ h. refl;
           }
       go false r =
-          let room = leb-false (f .0 .written + 152) (length (f .4)) r in
+          let room = leb-false (f .0 .written + longestLine) (length (f .4)) r in
           let k = finish-full (f .0 .session .tally) (f .4) (f .0 .written) r in
           let n : length lines ≡ length (a .text) + length (a .rest) = ap length (a .whole) ∙ length-append (a .text) (a .rest) in
           record {
@@ -59,5 +60,5 @@ module _ (lines out : List ℕ) (f : FeedLeaves) (a : AtOnce lines out f) where
 pub text-call-claim : TextCallClaim
 unfolding textCall
 text-call-claim b p c out =
-    let command : List ℕ = replicate 65538 0 in
+    let command : List ℕ = replicate longestCommand 0 in
     begins (captureOf p c b) out (fed (first command p c) b out) (whole-claim command p c b out (rw length-replicate (omega arith)))

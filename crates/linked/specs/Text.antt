@@ -3,7 +3,9 @@ use Prim.Native.Nat.{ℕ, _+_, _≤_}
 use mathlib.Core.Path.{_≡_}
 use mathlib.Core.List.{List, [], _++_}
 use lib.ListN.{length, replicate}
+use Rattle.lines.specs.Line.{longestLine}
 use Rattle.lines.specs.Text.{wrote}
+use Rattle.capture.specs.Command.{longestCommand}
 use Rattle.capture.specs.Session.{freshSession}
 use Rattle.capture.specs.Steps.{finishedOf}
 use Rattle.capture.specs.Feed.{FeedLeaves, fedOf}
@@ -18,7 +20,7 @@ finishedBy f = let w = finishedOf (f .0 .session .tally) (f .4) (f .0 .written) 
 
 -- the capture b is fed at once, with a command memory that is blank
 unfoldable pub textCall : List ℕ → List ℕ → List ℕ → List ℕ → Written
-textCall b p c out = finishedBy (fedOf freshSession 0 (replicate 65538 0) b p c out)
+textCall b p c out = finishedBy (fedOf freshSession 0 (replicate longestCommand 0) b p c out)
 
 -- `written` are the first bytes of `text`, from byte 0 of `out` on; `out` is otherwise as it was
 pub record TextBegins (text out : List ℕ) (r : ℕ) (o : List ℕ) : Type 0 where
@@ -27,11 +29,11 @@ pub record TextBegins (text out : List ℕ) (r : ℕ) (o : List ℕ) : Type 0 wh
   pub whole : text ≡ written ++ rest
   pub put : (r, o) ≡ wrote out 0 written
   -- nothing is left where a longest line has room behind the text
-  pub all : length text + 152 ≤ length out → rest ≡ []
+  pub all : length text + longestLine ≤ length out → rest ≡ []
 
 -- Laws.
 
-pub text-call : (b p c out : List ℕ) (f : FeedLeaves) → f ≡ fedOf freshSession 0 (replicate 65538 0) b p c out
+pub text-call : (b p c out : List ℕ) (f : FeedLeaves) → f ≡ fedOf freshSession 0 (replicate longestCommand 0) b p c out
     → (n : ℕ) (o : List ℕ) → (n, o) ≡ finishedOf (f .0 .session .tally) (f .4) (f .0 .written)
     → (n, f .2, f .3, o) ≡ textCall b p c out
 unfolding textCall

@@ -20,7 +20,7 @@ use Rattle.mmtp.specs.declared.note.PacketNote.{PacketNote}
 use Rattle.delivery.specs.declared.cursor.Found.{Found}
 use Rattle.delivery.specs.declared.cursor.Found.the-variants.{Event, Packet, Tail, Done}
 use Rattle.delivery.specs.declared.cursor.Turn.{Turn}
-use Rattle.intake.specs.Slot.{holding}
+use Rattle.intake.specs.Slot.{packetMemory, holding}
 use Rattle.receiver.specs.State.{withOwed, withSlot, withQueue, withChannels}
 use Rattle.receiver.specs.Slot.{shortBy}
 use Rattle.delivery.specs.Packet.{noteQueue, arrivedAt, joinedOf}
@@ -108,4 +108,4 @@ module _ (st : State) (p c : List ℕ) where
 
 pub short-room : (c : Config) (packet collecting : ℕ) → shortBy c packet collecting ≡ false → c .watch .n * c .limit ≤ collecting
 unfolding shortBy
-short-room c packet collecting h = ltb-false collecting (c .watch .n * c .limit) (neither (ltb packet 21433) _ h .1)
+short-room c packet collecting h = ltb-false collecting (c .watch .n * c .limit) (neither (ltb packet packetMemory) _ h .1)

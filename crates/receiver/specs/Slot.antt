@@ -15,13 +15,13 @@ use Rattle.receiver.specs.declared.state.State.{State}
 use Rattle.receiver.specs.declared.answer.Called.{Called}
 use Rattle.receiver.specs.Tests.{passed}
 use Rattle.delivery.specs.Choice.{neither}
-use Rattle.intake.specs.Slot.{intakeOf}
+use Rattle.intake.specs.Slot.{packetMemory, intakeOf}
 use Rattle.receiver.specs.State.{withFrame, withOwed, withIntake, refused, accepted}
 use Rattle.receiver.specs.Frame.{lossOf}
 
 -- "packet memory under 21,433 bytes or collecting memory under n × R", by their lengths
 unfoldable pub shortBy : Config → ℕ → ℕ → Bool
-shortBy c packet collecting = ltb packet 21433 || ltb collecting (c .watch .n * c .limit)
+shortBy c packet collecting = ltb packet packetMemory || ltb collecting (c .watch .n * c .limit)
 
 -- "20 none due; 21 next owed; 22"; 0 for none
 unfoldable pub slotRefusal : State → ℕ → ℕ → ℕ
@@ -79,11 +79,11 @@ lostSlotOf st packet collecting =
 
 -- memories that are long enough, or not
 module _ (c : Config) (packet collecting : ℕ) where
-  pub packet-short : packet < 21433 → shortBy c packet collecting ≡ true
+  pub packet-short : packet < packetMemory → shortBy c packet collecting ≡ true
   unfolding shortBy
   packet-short h = rw (lt-ltb _ _ h)
 
-  module _ (h : 21433 ≤ packet) where
+  module _ (h : packetMemory ≤ packet) where
     pub collecting-short : collecting < c .watch .n * c .limit → shortBy c packet collecting ≡ true
     unfolding shortBy
     collecting-short l = rw (le-ltb _ _ h, lt-ltb _ _ l)
@@ -111,7 +111,7 @@ module _ (c : Config) (packet collecting : ℕ) where
 pub record Ready (st : State) (packet collecting : ℕ) : Type 0 where
   pub due : st .frame .at < 120
   pub free : st .owed ≡ false
-  pub packets : 21433 ≤ packet
+  pub packets : packetMemory ≤ packet
   pub collects : st .config .watch .n * st .config .limit ≤ collecting
 
 module _ (st : State) (packet collecting : ℕ) where
@@ -142,7 +142,7 @@ module _ (st : State) (packet collecting : ℕ) where
       let p = passed (leb 120 (st .frame .at)) 20 _ (λ z. omega arith) e in
       let q = passed (st .owed) 21 _ (λ z. omega arith) (p .1) in
       let r = passed (shortBy c packet collecting) 22 0 (λ z. omega arith) (q .1) in
-      let s = neither (ltb packet 21433) (ltb collecting (c .watch .n * c .limit)) (r .0) in
+      let s = neither (ltb packet packetMemory) (ltb collecting (c .watch .n * c .limit)) (r .0) in
       record {
         due = leb-false _ _ (p .0);
         free = q .0;

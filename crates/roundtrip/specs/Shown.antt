@@ -6,6 +6,7 @@ use lib.ListN.{length, replicate}
 use Rattle.wire.specs.Field.{bytesOf}
 use Rattle.tlv.specs.Run.{Slot}
 use Rattle.cutter.specs.Claims.{slotsFrom}
+use Rattle.intake.specs.Slot.{packetMemory}
 use Rattle.broadcast.specs.Drains.{unit}
 use Rattle.broadcast.specs.Calls.{Made}
 use Rattle.broadcast.specs.Frames.{Frame, none, ownSlots}
@@ -61,7 +62,7 @@ pub record ComesBack : Type 0 where
   -- the own live slots are the run's, with the cutter's pointers
   pub own : map (λ (x : (ℕ × ℕ) × Slot). x .1) (ownSlots (config .stream) 0 frames) ≡ slots
   -- with memories of at least 21,433 and n × R bytes there is a reading, and any reading has no call refused and shows the units
-  pub readable : (p c : List ℕ) → 21433 ≤ length p → 1024 ≤ length c → (xs : List Made) × Reads config frames none p c xs
-  pub shows : (p c : List ℕ) → 21433 ≤ length p → 1024 ≤ length c → (xs : List Made) → Reads config frames none p c xs
+  pub readable : (p c : List ℕ) → packetMemory ≤ length p → 1024 ≤ length c → (xs : List Made) × Reads config frames none p c xs
+  pub shows : (p c : List ℕ) → packetMemory ≤ length p → 1024 ≤ length c → (xs : List Made) → Reads config frames none p c xs
       → (refusedOf config frames none p c xs ≡ [])
       × (shownOf config frames none p c xs ≡ map (λ (u : Parcel). unit (contentOf u)) units)

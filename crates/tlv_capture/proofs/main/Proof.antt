@@ -3,12 +3,14 @@ use mathlib.Core.Path.{_≡_, sym, _∙_}
 use lib.ListN.{length}
 use borrow.Author.Needs.{needs}
 use native.Mathlib.Omega.{arith}
+use Rattle.intake.specs.Slot.{packetMemory}
+use Rattle.capture.specs.Command.{longestCommand}
 use Rattle.tlv_capture.proofs.main.Statement.{statement}
 use Rattle.tlv_capture.proofs.main.Tie as tie
 
 abbrev Inv-loop : tie.InvT-loop
 Inv-loop packet₀ collecting₀ command₀ block₀ out₀ p₀ turns₀ packet collecting command block out p turns =
-    (21433 ≡ length packet) × (65536 ≡ length collecting) × (65538 ≡ length command) × (65536 ≡ length block) × (65536 ≡ length out)
+    (packetMemory ≡ length packet) × (65536 ≡ length collecting) × (longestCommand ≡ length command) × (65536 ≡ length block) × (65536 ≡ length out)
 
 abbrev μ-loop : tie.MeasureT-loop
 μ-loop packet₀ collecting₀ command₀ block₀ out₀ p₀ turns₀ packet collecting command block out p turns = turns

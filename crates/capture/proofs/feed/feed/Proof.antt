@@ -7,6 +7,8 @@ use native.Mathlib.Omega.{arith}
 use borrow.Author.Needs.{needs}
 use borrow.Author.Tests.{leb-true}
 use lib.ListN.{length}
+use Rattle.lines.specs.Line.{longestLine}
+use Rattle.capture.specs.Command.{longestCommand}
 use Rattle.capture.specs.declared.session.Session.{Session}
 use Rattle.capture.specs.Feed.{World, Keeps, goesBy, goes-room, goes-read, taken-by, source-some, turn-by}
 use Rattle.capture.specs.Feed.{fedFrom, fed-turn, fed-stops, fed-short, fed-long}
@@ -30,7 +32,7 @@ abbrev Inv-loop : tie.InvT-loop
 Inv-loop _ command₀ block packet₀ collecting₀ out₀ next₀ kept₀ _ _ command packet collecting out next kept read written =
     (fedFrom block (world next kept command read packet collecting out written)
     ≡ fedFrom block (world next₀ kept₀ command₀ 0 packet₀ collecting₀ out₀ 0))
-    × Keeps command kept × (read ≤ length block) × (65538 ≤ length command) × (length command ≡ length command₀)
+    × Keeps command kept × (read ≤ length block) × (longestCommand ≤ length command) × (length command ≡ length command₀)
     × (length packet ≡ length packet₀) × (length collecting ≡ length collecting₀) × (length out ≡ length out₀)
 
 abbrev μ-loop : tie.MeasureT-loop
@@ -46,7 +48,7 @@ goes g = let i = g .before .before in sym (i .before .goes-on .ensures) ∙ i .i
 took : (g : tie.After-take-bytes Inv-loop μ-loop) → let l = g .before .before .before .before in
     let block = l .before .before .before .before .before .before .before .before .before .args .block .now in
     (1 ≤ g .take-bytes .result .took) × (l .loop .read + g .take-bytes .result .took ≤ length block)
-    × (g .take-bytes .result .gathered ≤ 65538)
+    × (g .take-bytes .result .gathered ≤ longestCommand)
     × (length (g .take-bytes .last .0) ≡ length (l .loop .command))
 took g =
     let l = g .before .before .before .before in
@@ -85,7 +87,7 @@ run-requires c κs =
     let g = c .before .before .before .before .before .before .before .before in
     let l = g .before .before .before .before in
     let t = took g in
-    let h = leb-true (l .loop .written + 152) (length (l .loop .out)) (goes-room _ _ _ _ _ (goes g)) in
+    let h = leb-true (l .loop .written + longestLine) (length (l .loop .out)) (goes-room _ _ _ _ _ (goes g)) in
     (rw (c .before .before .before .source .ensures) (source-some _ _ _ _ _ (t .0) (t .1) (omega (arith, t .2, t .3, l .loop .inv .3))), h)
 
 keep-requires-2 : tie.Need-keep-requires-2 Inv-loop μ-loop

@@ -6,6 +6,7 @@ use lib.ListN.{length}
 use borrow.Author.Tests.{not-true, not-false, leb-true}
 use Rattle.capture.specs.Steps.{finish-full, finish-line}
 use borrow.Author.Needs.{needs}
+use Rattle.lines.specs.Line.{longestLine}
 use Rattle.capture.proofs.finish.finish.Statement.{statement}
 use Rattle.capture.proofs.finish.finish.Tie as tie
 
@@ -19,7 +20,7 @@ put-end-requires : tie.Need-put-end-requires
 put-end-requires c κs =
     let r = c .before in
     let s = r .before .before .before in
-    let l = leb-true (s .args .at + 152) (length (s .args .out .now))
+    let l = leb-true (s .args .at + longestLine) (length (s .args .out .now))
     (sym (r .before .has-room .ensures) ∙ not-false _ (r .if1 .left)) in
     omega arith
 

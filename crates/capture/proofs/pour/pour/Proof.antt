@@ -6,6 +6,7 @@ use lib.ListN.{length}
 use borrow.Author.Tests.{not-true, not-false, leb-true}
 use Rattle.capture.specs.Steps.{pour-idle, pour-full, pour-short}
 use borrow.Author.Needs.{needs}
+use Rattle.lines.specs.Line.{longestLine}
 use Rattle.capture.proofs.pour.pour.Statement.{statement}
 use Rattle.capture.proofs.pour.pour.Tie as tie
 
@@ -31,7 +32,7 @@ put-refused-requires : tie.Need-put-refused-requires
 put-refused-requires c κs =
     let r = c .before .before .before .before .before in
     let s = r .before .before .before .before .before .before .before in
-    let l = leb-true (s .args .at + 152) (length (s .args .out .now))
+    let l = leb-true (s .args .at + longestLine) (length (s .args .out .now))
     (sym (r .before .has-room .ensures) ∙ not-false _ (r .if2 .left)) in
     omega arith
 
