@@ -1,4 +1,4 @@
--- The meaning of a capture: from its bytes to its lines.
+-- The text of a capture: from its bytes to its lines.
 use Prim.Native.Nat.{ℕ, zero, suc}
 use mathlib.Core.Bool.{Bool, true, false, cond, _&&_, not}
 use mathlib.Core.List.{List, [], _++_}

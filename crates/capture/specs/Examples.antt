@@ -45,6 +45,21 @@ refuses n = (114 ∷ 101 ∷ 102 ∷ 117 ∷ 115 ∷ 101 ∷ 100 ∷ 32 ∷ n) +
 abbrev lines : List ℕ → List ℕ
 lines b = captureOf [] (replicate 16 0) b
 
+-- C's fields, each of several bytes: stream 0x0102, CID 0x0abc, sixteen ids from 0x1234 on, R = 0x010203
+abbrev wide : List ℕ
+wide =
+    67 ∷ 1 ∷ 2 ∷ 0x0a ∷ 0xbc ∷ 16 ∷ 0x12 ∷ 0x34 ∷ (replicate 28 0xff ++ (0x43 ∷ 0x21 ∷ 0 ∷ 1 ∷ 2 ∷ 3 ∷ []))
+
+abbrev Fields : Type 0
+Fields =
+    (configOf wide .stream ≡ 0x0102) × (configOf wide .cid ≡ 0x0abc) × (configOf wide .limit ≡ 0x010203)
+    × (configOf wide .watch .n ≡ 16)
+    × (configOf wide .watch .ids ≡ 0x1234 ∷ (replicate 14 0xffff ++ (0x4321 ∷ [])))
+
+fields : Fields
+unfolding be tab idsOf configOf
+fields = (refl, refl, refl, refl, refl)
+
 abbrev Captures : Type 0
 Captures =
     -- at the end, an unknown or cut command

@@ -142,7 +142,7 @@ entered s held command p c out =
       written = 0;
     }
 
--- a block is fed; a command memory under 65,538 bytes is not used
+-- a block is fed; with a command memory under 65,538 bytes nothing is read
 unfoldable pub fedOf : Session → ℕ → List ℕ → List ℕ → List ℕ → List ℕ → List ℕ → FeedLeaves
 fedOf s held command block p c out =
     cond (ltb (length command) longestCommand) (leftBy (entered s held command p c out))

@@ -1,4 +1,4 @@
--- The meaning of a capture, from its bytes to its lines.
+-- The text of a capture, from its bytes to its lines, and what feeding in blocks comes to.
 pub mod Command
 pub mod Session
 pub mod Waits

@@ -141,7 +141,7 @@ fn source<'a>(
     &command[..gathered]
 }
 
-// The command that is held, carried out if it is whole, with the lines of what next gives; an unknown one ends the session.
+// A command, carried out if it is whole, with the lines of what next gives; an unknown one ends the session.
 fn run(
     session: Session,
     b: &[u8],
@@ -190,7 +190,8 @@ fn goes_on(session: Session, read: usize, size: usize, written: usize, room: usi
     !is_ended(phase)
 }
 
-// Reads commands from a block until it is used up, or there is no room for a line, or the session ends or owes next.
+// Reads commands from a block until it is used up, or there is no room for a line, or the session ends or owes next. With a command
+// memory under 65,538 bytes it reads nothing.
 pub fn feed(
     session: Session,
     held: usize,

@@ -7,7 +7,7 @@ use native.Mathlib.Omega.{arith}
 use borrow.Author.Tests.{leb-true, leb-false}
 use lib.ListN.{length, replicate, length-append, length-replicate}
 use lib.Dec.{leb}
-use Rattle.lines.specs.Text.{wrote, written-end, written-length, written-more}
+use Rattle.lines.specs.Text.{wrote, wrote-end, written-end, written-length, written-more}
 use Rattle.lines.specs.Line.{longestLine, end-67}
 use Rattle.capture.specs.Command.{longestCommand}
 use Rattle.capture.specs.Capture.{lastLine, captureOf}
@@ -38,11 +38,12 @@ module _ (lines out : List ℕ) (f : FeedLeaves) (a : AtOnce lines out f) where
           let w = wrote (f .4) (f .0 .written) last in
           let k = finish-line (f .0 .session .tally) (f .4) (f .0 .written) r in
           record {
-            written = a .text ++ last;
+            text = a .text ++ last;
             rest = [];
             whole = a .whole ∙ rw (a .last r, append-nil (a .text ++ last));
             put =
                 rw k (written-more out (f .4) 0 (f .0 .written) (a .text) (a .written) (w .1) (w .0) last refl (omega (arith, e, l)));
+            within = rw (k, wrote-end (f .4) (f .0 .written) last) (omega (arith, l));
             all = λ h. refl;
           }
       go false r =
@@ -50,11 +51,12 @@ module _ (lines out : List ℕ) (f : FeedLeaves) (a : AtOnce lines out f) where
           let k = finish-full (f .0 .session .tally) (f .4) (f .0 .written) r in
           let n : length lines ≡ length (a .text) + length (a .rest) = ap length (a .whole) ∙ length-append (a .text) (a .rest) in
           record {
-            written = a .text;
+            text = a .text;
             rest = a .rest;
             whole = a .whole;
             put = rw k (a .written);
-            all = λ h. absurd (omega (arith, e, l));
+            within = rw k (omega (arith, e, a .within));
+            all = λ h. absurd (omega (arith, l, rw k at h));
           }
 
 pub text-call-claim : TextCallClaim

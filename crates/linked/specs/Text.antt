@@ -11,25 +11,26 @@ use Rattle.capture.specs.Steps.{finishedOf}
 use Rattle.capture.specs.Feed.{FeedLeaves, fedOf}
 
 -- how many bytes of text, both memories, and the memory of the text
-abbrev pub Written : Type 0
-Written = ℕ × List ℕ × List ℕ × List ℕ
+abbrev pub TextLeaves : Type 0
+TextLeaves = ℕ × List ℕ × List ℕ × List ℕ
 
 -- after the capture was fed, the last line
-abbrev pub finishedBy : FeedLeaves → Written
+abbrev pub finishedBy : FeedLeaves → TextLeaves
 finishedBy f = let w = finishedOf (f .0 .session .tally) (f .4) (f .0 .written) in (w .0, f .2, f .3, w .1)
 
 -- the capture b is fed at once, with a command memory that is blank
-unfoldable pub textCall : List ℕ → List ℕ → List ℕ → List ℕ → Written
+unfoldable pub textCall : List ℕ → List ℕ → List ℕ → List ℕ → TextLeaves
 textCall b p c out = finishedBy (fedOf freshSession 0 (replicate longestCommand 0) b p c out)
 
--- `written` are the first bytes of `text`, from byte 0 of `out` on; `out` is otherwise as it was
-pub record TextBegins (text out : List ℕ) (r : ℕ) (o : List ℕ) : Type 0 where
-  pub written : List ℕ
+-- the first r bytes of `lines` stand in the memory from byte 0 on, which is otherwise as it was; `rest` are the lines that are left
+pub record TextBegins (lines out : List ℕ) (r : ℕ) (o : List ℕ) : Type 0 where
+  pub text : List ℕ
   pub rest : List ℕ
-  pub whole : text ≡ written ++ rest
-  pub put : (r, o) ≡ wrote out 0 written
-  -- nothing is left where a longest line has room behind the text
-  pub all : length text + longestLine ≤ length out → rest ≡ []
+  pub whole : lines ≡ text ++ rest
+  pub put : (r, o) ≡ wrote out 0 text
+  pub within : r ≤ length out
+  -- none are left where a longest line has room behind them
+  pub all : r + longestLine ≤ length out → rest ≡ []
 
 -- Laws.
 

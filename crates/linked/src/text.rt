@@ -5,8 +5,8 @@ use capture::feed::feed;
 use capture::finish::begin;
 use capture::finish::finish;
 
-// Writes the lines of a capture to `text`, as `tlv_capture` prints them, and answers how many bytes it wrote. Where no longest line
-// would fit any more it stops: then the last line is missing.
+// Writes the lines of a capture to `text`, as `tlv_capture` prints them with memories of these lengths, and answers how many bytes
+// it wrote. Where no longest line would fit any more it stops: lines are missing then, the last one among them.
 #[no_mangle]
 pub extern "C" fn ixohuemil_text(
     capture: &[u8],
