@@ -98,7 +98,7 @@ eventLine t (Refused n) = refusedLine n
 unfoldable pub tallied : Tally → Event → Tally
 tallied t Nothing = t
 tallied t (Note n id) = withNote t
-tallied t (Unit g) = withUnit t (g .place .len)
+tallied t (Unit g) = withUnit t
 tallied t (Refused n) = t
 
 -- the session after an event that is no line: nothing waits, or next was refused

@@ -9,25 +9,21 @@ use Rattle.capture.specs.declared.session.Tally.{Tally}
 use Rattle.capture.specs.declared.session.Session.{Session}
 
 -- counts have 64 bits
-abbrev pub plus : ℕ → ℕ → ℕ
-plus n m = (n + m) % 2 ^ 64
-
 abbrev pub more : ℕ → ℕ
-more n = plus n 1
+more n = (n + 1) % 2 ^ 64
 
--- another frame, a slot, another unit of n bytes, another note
+-- another frame, a slot, another unit, another note
 abbrev pub inFrame : Tally → Tally
-inFrame t = record { frames = more (t .frames); slot = 0; units = t .units; notes = t .notes; bytes = t .bytes }
+inFrame t = record { frames = more (t .frames); slot = 0; units = t .units; notes = t .notes }
 
 abbrev pub inSlot : ℕ → Tally → Tally
-inSlot n t = record { frames = t .frames; slot = n; units = t .units; notes = t .notes; bytes = t .bytes }
+inSlot n t = record { frames = t .frames; slot = n; units = t .units; notes = t .notes }
 
-abbrev pub withUnit : Tally → ℕ → Tally
-withUnit t n =
-    record { frames = t .frames; slot = t .slot; units = more (t .units); notes = t .notes; bytes = plus (t .bytes) n }
+abbrev pub withUnit : Tally → Tally
+withUnit t = record { frames = t .frames; slot = t .slot; units = more (t .units); notes = t .notes }
 
 abbrev pub withNote : Tally → Tally
-withNote t = record { frames = t .frames; slot = t .slot; units = t .units; notes = more (t .notes); bytes = t .bytes }
+withNote t = record { frames = t .frames; slot = t .slot; units = t .units; notes = more (t .notes) }
 
 abbrev pub isReading : Phase → Bool
 isReading Before = false
@@ -58,5 +54,5 @@ freshSession =
     record {
       phase = Before;
       state = freshState blankConfig;
-      tally = record { frames = 0; slot = 0; units = 0; notes = 0; bytes = 0 };
+      tally = record { frames = 0; slot = 0; units = 0; notes = 0 };
     }

@@ -28,7 +28,6 @@ pub fn begin() -> Session
         slot: 0,
         units: 0,
         notes: 0,
-        bytes: 0,
     };
     Session {
         phase: Phase::Before,

@@ -4,7 +4,7 @@ ghost use Prim.Native.Nat.{_+_, _≤_};
 ghost use lib.ListN.{length};
 ghost use Rattle.lines.specs.Line.{longestLine};
 ghost use Rattle.lines.specs.Text.{Put};
-ghost use Rattle.capture.specs.Session.{busy, withUnit, withState, withTally};
+ghost use Rattle.capture.specs.Session.{busy, withState, withTally};
 ghost use Rattle.capture.specs.Capture.{eventLine, tallied, closed};
 ghost use Rattle.capture.specs.Steps.{roomy, Drains, pouredOf};
 use crate::session::Phase;
@@ -56,17 +56,6 @@ fn put_event(out: &mut [u8], at: usize, tally: Tally, event: Event) -> usize
     }
 }
 
-// One more unit.
-fn count_unit(tally: Tally, len: usize) -> Tally
-    ensures { λ r. ⌜ r ≡ withUnit tally len ⌝ }
-{
-    Tally {
-        units: std::num::wrapping_add_u64(tally.units, 1),
-        bytes: std::num::wrapping_add_u64(tally.bytes, len as u64),
-        ..tally
-    }
-}
-
 pub fn count(tally: Tally, event: Event) -> Tally
     ensures { λ r. ⌜ r ≡ tallied tally event ⌝ }
 {
@@ -76,10 +65,10 @@ pub fn count(tally: Tally, event: Event) -> Tally
             notes: std::num::wrapping_add_u64(tally.notes, 1),
             ..tally
         },
-        Event::Unit(given) => {
-            let place = given.place;
-            count_unit(tally, place.len)
-        }
+        Event::Unit(_) => Tally {
+            units: std::num::wrapping_add_u64(tally.units, 1),
+            ..tally
+        },
         Event::Refused(_) => tally,
     }
 }

@@ -18,8 +18,6 @@ pub struct Tally {
     pub slot: u64,
     pub units: u64,
     pub notes: u64,
-    // Bytes of the units.
-    pub bytes: u64,
 }
 
 pub struct Session {

@@ -1,4 +1,4 @@
--- The totals of a capture are how many units, notes and bytes of units its events have.
+-- The totals of a capture are how many units and notes its events have.
 use Prim.Native.Nat.{ℕ, zero, suc, _+_, _%_, _^_, _<_}
 use mathlib.Core.Path.{_≡_, refl, _∙_}
 use mathlib.Core.Bool.{Bool, true, false, cond}
@@ -40,7 +40,6 @@ use Rattle.captured.specs.Events.{
   meaningOf,
   shownIn,
   noteCount,
-  unitBytes,
 }
 use Rattle.captured.specs.Claims.{TotalsClaim}
 
@@ -48,36 +47,32 @@ use Rattle.captured.specs.Claims.{TotalsClaim}
 record Small (t : Tally) : Type 0 where
   units : t .units < 2 ^ 64
   notes : t .notes < 2 ^ 64
-  bytes : t .bytes < 2 ^ 64
 
 -- u is t and what the events have
 record Adds (t u : Tally) (es : List Placed) : Type 0 where
   units : u .units ≡ (t .units + length (unitsOf (shownIn es))) % 2 ^ 64
   notes : u .notes ≡ (t .notes + noteCount (shownIn es)) % 2 ^ 64
-  bytes : u .bytes ≡ (t .bytes + unitBytes es) % 2 ^ 64
 
 -- u differs from t in the frame and the slot at most
 record Keeps (t u : Tally) : Type 0 where
   units : u .units ≡ t .units
   notes : u .notes ≡ t .notes
-  bytes : u .bytes ≡ t .bytes
 
 adds-small : (t u : Tally) (es : List Placed) → Adds t u es → Small u
-adds-small t u es a = record { units = omega (arith, a .units); notes = omega (arith, a .notes); bytes = omega (arith, a .bytes) }
+adds-small t u es a = record { units = omega (arith, a .units); notes = omega (arith, a .notes) }
 
 keeps-small : (t u : Tally) → Keeps t u → Small t → Small u
-keeps-small t u k s = record { units = rw (k .units) (s .units); notes = rw (k .notes) (s .notes); bytes = rw (k .bytes) (s .bytes) }
+keeps-small t u k s = record { units = rw (k .units) (s .units); notes = rw (k .notes) (s .notes) }
 
 keeps-adds : (t u : Tally) → Keeps t u → Small t → Adds t u []
 keeps-adds t u k s =
     record {
       units = omega (arith, k .units, s .units);
       notes = omega (arith, k .notes, s .notes);
-      bytes = omega (arith, k .bytes, s .bytes);
     }
 
 kept : (t : Tally) → Keeps t t
-kept t = record { units = refl; notes = refl; bytes = refl }
+kept t = record { units = refl; notes = refl }
 
 adds-none : (t : Tally) → Small t → Adds t t []
 adds-none t s = keeps-adds t t (kept t) s
@@ -87,7 +82,6 @@ adds-kept t u v es k a =
     record {
       units = rw (← k .units) (a .units);
       notes = rw (← k .notes) (a .notes);
-      bytes = rw (← k .bytes) (a .bytes);
     }
 
 -- one list of events behind another
@@ -110,16 +104,11 @@ module _ (b : List Placed) where
       go (note n id) h = omega (arith, h)
       go (unit u) h = h
 
-  bytes-append : (a : List Placed) → unitBytes (a ++ b) ≡ unitBytes a + unitBytes b
-  bytes-append [] = omega arith
-  bytes-append (e ∷ a) = omega (arith, bytes-append a)
-
   adds-append : (t u v : Tally) (a : List Placed) → Adds t u a → Adds u v b → Adds t v (a ++ b)
   adds-append t u v a x y =
       record {
         units = rw (units-append a) (y .units ∙ omega (arith, x .units));
         notes = rw (notes-append a) (y .notes ∙ omega (arith, x .notes));
-        bytes = rw (bytes-append a) (y .bytes ∙ omega (arith, x .bytes));
       }
 
 -- what next gave
@@ -133,12 +122,12 @@ module _ (p : List ℕ) where
   event-adds s st c c' on gon z h true Nothing = adds-none (s .tally) z
   event-adds s st c c' on gon z h true (Note n id) =
       let i = h (withTally (withState s st) (tallied (s .tally) (Note n id)))
-      (record { units = z .units; notes = omega arith; bytes = z .bytes }) in
-      record { units = i .units; notes = i .notes ∙ omega arith; bytes = i .bytes ∙ omega arith }
+      (record { units = z .units; notes = omega arith }) in
+      record { units = i .units; notes = i .notes ∙ omega arith }
   event-adds s st c c' on gon z h true (Unit g) =
       let i = h (withTally (withState s st) (tallied (s .tally) (Unit g)))
-      (record { units = omega arith; notes = z .notes; bytes = omega arith }) in
-      record { units = i .units ∙ omega arith; notes = i .notes; bytes = i .bytes ∙ omega arith }
+      (record { units = omega arith; notes = z .notes }) in
+      record { units = i .units ∙ omega arith; notes = i .notes }
   event-adds s st c c' on gon z h true (Refused n) = adds-none (s .tally) z
 
   drain-adds : (f : ℕ) (s : Session) (c : List ℕ) → Small (s .tally)
@@ -158,12 +147,12 @@ module _ (p : List ℕ) where
 -- a command
 after-keeps : (l : Letter) (s : Session) → Keeps (s .tally) (afterCall l s .tally)
 unfolding afterCall
-after-keeps Start s = record { units = refl; notes = refl; bytes = refl }
-after-keeps Frame s = record { units = refl; notes = refl; bytes = refl }
-after-keeps LostFrame s = record { units = refl; notes = refl; bytes = refl }
-after-keeps Slot s = record { units = refl; notes = refl; bytes = refl }
-after-keeps LostSlot s = record { units = refl; notes = refl; bytes = refl }
-after-keeps Unknown s = record { units = refl; notes = refl; bytes = refl }
+after-keeps Start s = record { units = refl; notes = refl }
+after-keeps Frame s = record { units = refl; notes = refl }
+after-keeps LostFrame s = record { units = refl; notes = refl }
+after-keeps Slot s = record { units = refl; notes = refl }
+after-keeps LostSlot s = record { units = refl; notes = refl }
+after-keeps Unknown s = record { units = refl; notes = refl }
 
 done-keeps : (s : Session) (p c b : List ℕ) → Keeps (s .tally) (doneOf s p c b .session .tally)
 unfolding doneOf
@@ -233,5 +222,5 @@ pub capture-totals : TotalsClaim
 unfolding meaningOf freshSession
 capture-totals p c b =
     let a =
-    meaning-adds (length b) freshSession p c b (record { units = omega arith; notes = omega arith; bytes = omega arith }) in
-    record { units = a .units ∙ omega arith; notes = a .notes ∙ omega arith; bytes = a .bytes ∙ omega arith }
+    meaning-adds (length b) freshSession p c b (record { units = omega arith; notes = omega arith }) in
+    record { units = a .units ∙ omega arith; notes = a .notes ∙ omega arith }

@@ -19,7 +19,7 @@ use Rattle.broadcast.specs.Drains.{strip}
 use Rattle.broadcast.specs.Carried.{carriedUnits, intactUnits, Few, contents}
 use Rattle.broadcast.specs.Frames.{Frame, Whole, Damage, none}
 use Rattle.broadcast.specs.Demand3.{NoNote, unitsOf, slotsOf, kept}
-use Rattle.captured.specs.Events.{Placed, Meaning, meaningOf, meaningText, shownIn, noteCount, unitBytes, endRefusal}
+use Rattle.captured.specs.Events.{Placed, Meaning, meaningOf, meaningText, shownIn, noteCount, endRefusal}
 use Rattle.captured.specs.Calls.{commandCalls, arrivalsBy, refusalsBy, framesBy, shortRefusalsBy, shortFramesBy}
 use Rattle.captured.specs.Places.{placedBy}
 use Rattle.captured.specs.Written.{CanWriteFrames, captureBytes}
@@ -30,11 +30,10 @@ use Rattle.captured.specs.Written.{CanWriteFrames, captureBytes}
 abbrev pub TextClaim : Type 0
 TextClaim = (p c b : List ℕ) → captureOf p c b ≡ meaningText (meaningOf p c b)
 
--- its totals are those of its events: how many units and notes, and how many bytes of units, in 64 bits
+-- its totals are those of its events: how many units and how many notes; counts have 64 bits
 pub record Counted (m : Meaning) : Type 0 where
   pub units : m .tally .units ≡ length (unitsOf (shownIn (m .events))) % 2 ^ 64
   pub notes : m .tally .notes ≡ noteCount (shownIn (m .events)) % 2 ^ 64
-  pub bytes : m .tally .bytes ≡ unitBytes (m .events) % 2 ^ 64
 
 abbrev pub TotalsClaim : Type 0
 TotalsClaim = (p c b : List ℕ) → Counted (meaningOf p c b)

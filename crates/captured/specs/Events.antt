@@ -1,5 +1,5 @@
 -- The meaning of a capture: its notes and units, each with its frame and slot, how it ended, and its totals. Its text is made of that.
-use Prim.Native.Nat.{ℕ, zero, suc, _+_}
+use Prim.Native.Nat.{ℕ, zero, suc}
 use mathlib.Core.Bool.{cond}
 use mathlib.Core.List.{List, [], _∷_, _++_}
 use lib.ListN.{length, getD, take, drop}
@@ -31,7 +31,7 @@ pub data Ending : Type 0 where
   at-cut : Ending
   by-refusal : ℕ → Ending
 
--- `tally`: the frames, units, notes and bytes of units that were counted
+-- `tally`: the frames, units and notes that were counted
 pub record Meaning : Type 0 where
   pub events : List Placed
   pub ending : Ending
@@ -150,8 +150,3 @@ abbrev pub noteCount : List Shown → ℕ
 noteCount [] = 0
 noteCount (note n id ∷ es) = suc (noteCount es)
 noteCount (unit u ∷ es) = noteCount es
-
--- how long the units are together
-abbrev pub unitBytes : List Placed → ℕ
-unitBytes [] = 0
-unitBytes (e ∷ es) = e .len + unitBytes es

@@ -13,14 +13,14 @@ enum-told-2 c = search needs
 wrapping-add-u64-requires : tie.Need-wrapping-add-u64-requires
 wrapping-add-u64-requires c κs = search needs
 
-enum-known-event : tie.Need-enum-known-event
-enum-known-event c = search needs
-
-count-unit-requires : tie.Need-count-unit-requires
-count-unit-requires c κs = search needs
-
 enum-told-3 : tie.Need-enum-told-3
 enum-told-3 c = search needs
+
+wrapping-add-u64-requires-2 : tie.Need-wrapping-add-u64-requires-2
+wrapping-add-u64-requires-2 c κs = search needs
+
+enum-told-4 : tie.Need-enum-told-4
+enum-told-4 c = search needs
 
 returns : tie.Need-returns
 unfolding tallied
@@ -32,11 +32,11 @@ returns-2 c = rw (c .before .enum-told2 .given .1, c .wrapping-add-u64 .ensures)
 
 returns-3 : tie.Need-returns-3
 unfolding tallied
-returns-3 c = rw (c .before .before .before .event .given .1) (c .count-unit .ensures)
+returns-3 c = rw (c .before .enum-told3 .given .1, c .wrapping-add-u642 .ensures)
 
 returns-4 : tie.Need-returns-4
 unfolding tallied
-returns-4 c = rw (c .enum-told3 .given .1)
+returns-4 c = rw (c .enum-told4 .given .1)
 
 pub count-spec : {M : Type 1} → statement M
 count-spec =
@@ -45,9 +45,9 @@ count-spec =
     enum-told
     enum-told-2
     wrapping-add-u64-requires
-    enum-known-event
-    count-unit-requires
     enum-told-3
+    wrapping-add-u64-requires-2
+    enum-told-4
     returns
     returns-2
     returns-3
