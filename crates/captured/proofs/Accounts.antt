@@ -42,15 +42,11 @@ use Rattle.captured.specs.Events.{
   nothingWaited,
   waitedBy,
   waitedOf,
-  at-unknown,
-  refusedOr,
-  stoppedAt,
   commandRefusal,
   eventsFirst,
   noMore,
   meaningBy,
   meaningOf,
-  endRefusal,
   shownIn,
 }
 use Rattle.captured.specs.Calls.{
@@ -69,7 +65,6 @@ use Rattle.captured.specs.Calls.{
 }
 use Rattle.captured.specs.Places.{placedAt, slotNumber, placedBy}
 use Rattle.captured.specs.Claims.{configIn, Begins, Suffice, Accounts, CaptureAccounts}
-use Rattle.captured.proofs.Texts.{stop-quiet}
 use Rattle.captured.proofs.Drains.{session, Settled, settle, idle-settled}
 use Rattle.captured.proofs.Steps.{did-call, tallyAfter, slot-counted, frame-counted, call-queue, refusal-is, Steps, call-step}
 use Rattle.receiver.proofs.Lengths.{GiveLies}
@@ -139,9 +134,9 @@ onward f s p c b =
     let x = take (sizeOf b) b in
     let k = doneOf s p c x in
     cond (reads s b)
-    (cond (isEnded (k .session .phase)) (noMore (k .session) (refusedOr (commandRefusal s p c x) at-unknown))
+    (cond (isEnded (k .session .phase)) (noMore (k .session) (commandRefusal s p c x))
     (meaningBy f (k .session) (k .packet) c (drop (sizeOf b) b)))
-    (noMore s (stoppedAt b))
+    (noMore s [])
 
 pub calls-none : (f : ℕ) (b : List ℕ) → whole b ≡ false → commandCallsBy (suc f) b ≡ []
 unfolding commandCallsBy
@@ -153,7 +148,7 @@ unfolding commandCallsBy
 calls-some f b h = rw h
 
 pub onward-stops : (f : ℕ) (st : State) (t : Tally) (p c b : List ℕ) → whole b ≡ false
-    → onward f (session st t) p c b ≡ noMore (session st t) (stoppedAt b)
+    → onward f (session st t) p c b ≡ noMore (session st t) []
 unfolding onward
 onward-stops f st t p c b h = rw h
 
@@ -173,7 +168,7 @@ module _ (cfg : Config) where
   abbrev Tells : Meaning → List Shown → List Placed → (ℕ → Lane (List (ℕ × ℕ))) → Slot-state (ℕ × ℕ) → Layout → ℕ → ℕ → List Call → Type 0
   Tells m es ps g tl l i n ks =
       (shownIn (m .events) ≡ es ++ map strip (events cfg g (run tl (arrivalsBy (cfg .stream) l i n ks))))
-      × (endRefusal (m .ending) ≡ refusalsBy (cfg .stream) l i ks)
+      × (m .refusal ≡ refusalsBy (cfg .stream) l i ks)
       × (m .tally .frames ≡ framesBy (cfg .stream) l i n ks % 2 ^ 64)
       × (m .events ≡ ps ++ placedBy cfg g tl l i n ks)
 
@@ -186,12 +181,12 @@ module _ (cfg : Config) where
       → Tells (meaningBy f s p c b) es (placedAt (s .tally .frames) (s .tally .slot) es) g tl l i n (commandCallsBy f b)
 
   tells-none : (m : Meaning) (g : ℕ → Lane (List (ℕ × ℕ))) (tl : Slot-state (ℕ × ℕ)) (l : Layout) (i n : ℕ) → m .events ≡ []
-      → endRefusal (m .ending) ≡ [] → m .tally .frames ≡ n % 2 ^ 64 → Tells m [] [] g tl l i n []
+      → m .refusal ≡ [] → m .tally .frames ≡ n % 2 ^ 64 → Tells m [] [] g tl l i n []
   unfolding arrivalsBy refusalsBy framesBy placedBy run events
   tells-none m g tl l i n e r f = (ap shownIn e, r, f, e)
 
   tells-refused : (m : Meaning) (g : ℕ → Lane (List (ℕ × ℕ))) (tl : Slot-state (ℕ × ℕ)) (l : Layout) (i n : ℕ) (k : Call) (ks : List Call)
-      → eqb (refusalAt (cfg .stream) l i k) 0 ≡ false → m .events ≡ [] → endRefusal (m .ending) ≡ refusalAt (cfg .stream) l i k ∷ []
+      → eqb (refusalAt (cfg .stream) l i k) 0 ≡ false → m .events ≡ [] → m .refusal ≡ refusalAt (cfg .stream) l i k ∷ []
       → m .tally .frames ≡ n % 2 ^ 64 → Tells m [] [] g tl l i n (k ∷ ks)
   unfolding arrivalsBy refusalsBy framesBy placedBy run events
   tells-refused m g tl l i n k ks z e r f = rw z (ap shownIn e, r, f, e)
@@ -322,7 +317,7 @@ module _ (cfg : Config) where
     unfolding Goal x rest
     command-told false e =
         rw (calls-none f b e, onward-stops f st t p c b e)
-        (tells-none (noMore (session st t) (stoppedAt b)) g tl l i n refl (stop-quiet b) counts)
+        (tells-none (noMore (session st t) []) g tl l i n refl refl counts)
     command-told true e = rw (calls-some f b e) (go (fits Reading w) refl)
       where
         w : Letter
@@ -361,7 +356,7 @@ module _ (cfg : Config) where
   unfolding arrivalsBy refusalsBy framesBy placedBy run events
   told-by zero s p c b es st c' tl g l i n d a h q = (unfold meaningBy in unfold commandCallsBy in (
     shown-append (waitedOf s p c .events) [] ∙ ap (λ (r : List Shown). r ++ []) (settled-shows s p c es st c' d),
-    rw (d .calm) (stop-quiet b),
+    rw (d .calm),
     d .frames ∙ q,
     ap (λ (r : List Placed). r ++ []) (d .events),
   ))
@@ -434,7 +429,7 @@ module _ (p c b : List ℕ) (s : Begins b) where
       record {
         accounted = ap (λ (m : Meaning). shownIn (m .events)) e ∙ r .0;
         placed = ap (λ (m : Meaning). m .events) e ∙ r .3;
-        refusal = ap (λ (m : Meaning). endRefusal (m .ending)) e ∙ r .1;
+        refusal = ap (λ (m : Meaning). m .refusal) e ∙ r .1;
         frames = ap (λ (m : Meaning). m .tally .frames) e ∙ r .2;
       }
 

@@ -23,7 +23,7 @@ use Rattle.broadcast.specs.Frames.{Frame, Whole, Damage, none, slotCall, slotAt
 use Rattle.broadcast.specs.Frames.{arriving, slotsArrive, layoutIn, frameArrives, arrivals}
 use Rattle.broadcast.proofs.SlotCalls.{SlotsFit}
 use Rattle.broadcast.proofs.Reading.{FramesFit}
-use Rattle.captured.specs.Events.{meaningOf, shownIn, endRefusal}
+use Rattle.captured.specs.Events.{meaningOf, shownIn}
 use Rattle.captured.specs.Calls.{commandCalls, refusalAt, layoutAfter, slotAfter, framesAfter, arrivalBy, arrivalsBy, refusalsBy}
 use Rattle.captured.specs.Written.{callsBytes, slotsCalls, frameCalls, framesCalls, captureBytes}
 use Rattle.captured.specs.Written.{CanWriteAll, CanWriteSlots, CanWriteFrames}
@@ -224,7 +224,7 @@ module _ (start : List ℕ) (size : length start ≡ 42) (s : Begins start) (d :
   pub accounts-same : (p c : List ℕ) → Suffice (configIn start) p c
       → (shownIn (meaningOf p c (captureBytes start d fs) .events)
       ≡ map strip (account (configIn start) (arrivalsBy (configIn start .stream) blankLayout 120 0 (framesCalls d 0 fs))))
-      × (endRefusal (meaningOf p c (captureBytes start d fs) .ending)
+      × (meaningOf p c (captureBytes start d fs) .refusal
       ≡ refusalsBy (configIn start .stream) blankLayout 120 (framesCalls d 0 fs))
   accounts-same p c h =
       let b = captureBytes start d fs in

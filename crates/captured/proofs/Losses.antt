@@ -29,11 +29,10 @@ use Rattle.broadcast.specs.Calls.{Call, frame, slot}
 use Rattle.broadcast.specs.Frames.{Frame, Damage, none, ownSlots}
 use Rattle.broadcast.specs.Demand3.{NoNote, unitsOf, slotsOf}
 use Rattle.broadcast.proofs.Demand3.{start-accepted, start-at, shows-account, made, demand-3}
-use Rattle.captured.specs.Events.{Placed, Meaning, Waited, meaningBy, meaningOf, shownIn, endRefusal}
+use Rattle.captured.specs.Events.{Placed, Meaning, Waited, meaningBy, meaningOf, shownIn}
 use Rattle.captured.specs.Calls.{shortAt, shortRefusalsBy}
 use Rattle.captured.specs.Written.{callsBytes, slotsCalls, framesCalls, CanWriteFrames, captureBytes}
 use Rattle.captured.specs.Claims.{configIn, Begins, Suffice, UndamagedCapture, ExactLoss, CaptureLoss}
-use Rattle.captured.proofs.Texts.{stop-quiet}
 use Rattle.captured.proofs.Drains.{session}
 use Rattle.captured.proofs.Accounts.{onward-stops, idle-waited, mean-step, start-means, started-session}
 use Rattle.captured.proofs.FramesRead.{frames-fit, frames-carry, config-same, calls-same, begins-same, accounts-same}
@@ -83,7 +82,7 @@ first-calls f fs d ds e = rw e
 
 module _ (start : List ℕ) (f : Frame) (fs : List Frame) (p c : List ℕ) (size : length start ≡ 42) (s : Begins start)
     (n : length (f .slots) ≡ 120) (z : CanWriteFrames (f ∷ fs))
-    (e : endRefusal (meaningOf p c (captureBytes start none (f ∷ fs)) .ending) ≡ []) where
+    (e : meaningOf p c (captureBytes start none (f ∷ fs)) .refusal ≡ []) where
   not-short : shortBy (configIn start) (length p) (length c) ≡ true → ⊥
   not-short h = go (f .slots) refl
     where
@@ -107,10 +106,10 @@ module _ (start : List ℕ) (f : Frame) (fs : List Frame) (p c : List ℕ) (size
 
 -- without a frame: C alone gives nothing
 abbrev Nothing-read : Meaning → Type 0
-Nothing-read m = (m .events ≡ []) × (endRefusal (m .ending) ≡ [])
+Nothing-read m = (m .events ≡ []) × (m .refusal ≡ [])
 
 nothing-read : (f : ℕ) (st : State) (t : Tally) (p c : List ℕ) → st .owed ≡ false → Nothing-read (meaningBy f (session st t) p c [])
-nothing-read zero st t p c o = unfold meaningBy in rw (idle-waited st t p c o) (refl, stop-quiet [])
+nothing-read zero st t p c o = unfold meaningBy in rw (idle-waited st t p c o) (refl, refl)
 nothing-read (suc f) st t p c o =
     let w = idle-waited st t p c o in
     rw (
@@ -118,7 +117,7 @@ nothing-read (suc f) st t p c o =
       w,
       drain-idle (session st t) p c o,
       onward-stops f st t p c [] (unfold whole in rw (size-none [] refl)),
-    ) (refl, stop-quiet [])
+    ) (refl, refl)
 
 start-alone : (start : List ℕ) (d : Damage) (p c : List ℕ) → length start ≡ 42 → Begins start
     → Nothing-read (meaningOf p c (captureBytes start d []))

@@ -27,12 +27,11 @@ use Rattle.capture.specs.Capture.{fits, callOf, closed, tallied, drainedBy, dra
 use Rattle.capture.specs.Drains.{drain-idle}
 use Rattle.capture.proofs.Texts.{whole-size}
 use Rattle.broadcast.proofs.Demand3.{start-accepted}
-use Rattle.captured.specs.Events.{Meaning, Waited, waitedBy, waitedOf, meaningBy, meaningOf, endRefusal}
+use Rattle.captured.specs.Events.{Meaning, Waited, waitedBy, waitedOf, meaningBy, meaningOf}
 use Rattle.broadcast.specs.Calls.{Call, frame, lost-frame, slot, lost-slot}
 use Rattle.captured.specs.Calls.{commandCall, callThen, commandCallsBy, commandCalls, slotAfter}
 use Rattle.captured.specs.Calls.{shortAt, shortRefusalsBy, shortFramesBy}
 use Rattle.captured.specs.Claims.{configIn, CaptureShort}
-use Rattle.captured.proofs.Texts.{stop-quiet}
 use Rattle.captured.proofs.Drains.{session}
 use Rattle.captured.proofs.Steps.{tallyAfter}
 use Rattle.captured.proofs.Accounts.{front-letter, done-unfit, done-refused, done-accepted, after-reads, behind-fits, behind-unfit}
@@ -41,7 +40,7 @@ use Rattle.captured.proofs.Accounts.{started-session}
 
 -- no event, these refusals, and so many frames
 abbrev Says : Meaning → List ℕ → ℕ → Type 0
-Says m rs n = (m .events ≡ []) × (endRefusal (m .ending) ≡ rs) × (m .tally .frames ≡ n % 2 ^ 64)
+Says m rs n = (m .events ≡ []) × (m .refusal ≡ rs) × (m .tally .frames ≡ n % 2 ^ 64)
 
 -- an accepted call, and a refused one
 module _ (stream s : ℕ) (k : Call) (ks : List Call) where
@@ -259,7 +258,7 @@ module _ (p c : List ℕ) where
   unfolding Goal x rest
   onward-says f again st t b n h o fr false e =
       rw (onward-stops f st t p c b e, calls-none f b e)
-      (refl, unfold shortRefusalsBy in stop-quiet b, unfold shortFramesBy in fr)
+      (refl, unfold shortRefusalsBy in refl, unfold shortFramesBy in fr)
   onward-says f again st t b n h o fr true e =
       rw (calls-some f b e) (command-says f again st t b n h o fr e (letterOf (getD b 0 0)) refl)
 
@@ -267,7 +266,7 @@ module _ (p c : List ℕ) where
   unfolding shortRefusalsBy shortFramesBy
   says zero st t b n h o fr =
       unfold meaningBy in unfold commandCallsBy in
-      rw (idle-waited st t p c o, drain-idle (session st t) p c o) (refl, stop-quiet b, fr)
+      rw (idle-waited st t p c o, drain-idle (session st t) p c o) (refl, refl, fr)
   says (suc f) st t b n h o fr =
       let g = idle-waited st t p c o in
       rw (mean-step f (session st t) p c b (ap (λ (y : Waited). y .refusals) g), g, drain-idle (session st t) p c o)
@@ -284,6 +283,6 @@ capture-short p c b s h =
     (unfold freshSession in omega arith) in
     record {
       events = ap (λ (m : Meaning). m .events) e ∙ a .0;
-      refusal = ap (λ (m : Meaning). endRefusal (m .ending)) e ∙ a .1;
+      refusal = ap (λ (m : Meaning). m .refusal) e ∙ a .1;
       frames = ap (λ (m : Meaning). m .tally .frames) e ∙ a .2;
     }

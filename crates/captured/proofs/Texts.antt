@@ -39,18 +39,12 @@ use Rattle.capture.specs.Capture.{
 use Rattle.capture.specs.Drains.{still, drain-idle}
 use Rattle.captured.specs.Events.{
   Placed,
-  Ending,
-  at-the-end,
-  at-unknown,
-  at-cut,
   Meaning,
   Waited,
   nothingWaited,
   waitedThen,
   waitedBy,
   waitedOf,
-  refusedOr,
-  stoppedAt,
   commandRefusal,
   eventsFirst,
   noMore,
@@ -58,7 +52,6 @@ use Rattle.captured.specs.Events.{
   meaningOf,
   lineBy,
   linesOf,
-  endRefusal,
   refusedLines,
   meaningText,
 }
@@ -152,37 +145,20 @@ text-first : (es : List Placed) (m : Meaning) → meaningText (eventsFirst es m)
 unfolding meaningText
 text-first es m = rw (lines-append es (m .events), append-assoc)
 
--- how it ended, as text
-pub stop-quiet : (b : List ℕ) → endRefusal (stoppedAt b) ≡ []
-unfolding stoppedAt
-stop-quiet b = go (eqb (length b) 0) (eqb (sizeOf b) 0)
-  where
-    go : (x y : Bool) → endRefusal (cond x at-the-end (cond y at-unknown at-cut)) ≡ []
-    go true y = refl
-    go false true = refl
-    go false false = refl
-
-ended-lines : (rs : List ℕ) (e : Ending) → endRefusal e ≡ [] → refusedLines (endRefusal (refusedOr rs e)) ≡ refusedLines rs
-ended-lines [] e h = rw h
-ended-lines (n ∷ ns) e h = refl
-
-text-ends : (s : Session) (e : Ending) → meaningText (noMore s e) ≡ refusedLines (endRefusal e) ++ lastLine (s .tally)
+text-ends : (s : Session) (rs : List ℕ) → meaningText (noMore s rs) ≡ refusedLines rs ++ lastLine (s .tally)
 unfolding meaningText linesOf
-text-ends s e = refl
+text-ends s rs = refl
 
 -- from what next gave on, where a command is not read
-stopped-text : (s : Session) (p c b : List ℕ)
+stopped-text : (s : Session) (p c : List ℕ)
     → drainedOf s p c .text ++ lastLine (drainedOf s p c .session .tally)
-    ≡ meaningText
-    (eventsFirst (waitedOf s p c .events) (noMore (drainedOf s p c .session) (refusedOr (waitedOf s p c .refusals) (stoppedAt b))))
-stopped-text s p c b =
-    let t = same s p c in
+    ≡ meaningText (eventsFirst (waitedOf s p c .events) (noMore (drainedOf s p c .session) (waitedOf s p c .refusals)))
+stopped-text s p c =
     let g = waitedOf s p c in
     rw (
-      text-first (g .events) (noMore (drainedOf s p c .session) (refusedOr (g .refusals) (stoppedAt b))),
-      text-ends (drainedOf s p c .session) (refusedOr (g .refusals) (stoppedAt b)),
-      ended-lines (g .refusals) (stoppedAt b) (stop-quiet b),
-      t .text,
+      text-first (g .events) (noMore (drainedOf s p c .session) (g .refusals)),
+      text-ends (drainedOf s p c .session) (g .refusals),
+      same s p c .text,
       append-assoc,
     )
 
@@ -199,7 +175,7 @@ module _ (f : ℕ) (s : Session) (p c b : List ℕ)
   k = doneOf (d .session) p (d .collecting) (take (sizeOf b) b)
 
   last : Meaning
-  last = noMore (k .session) (refusedOr (commandRefusal (d .session) p (d .collecting) (take (sizeOf b) b)) at-unknown)
+  last = noMore (k .session) (commandRefusal (d .session) p (d .collecting) (take (sizeOf b) b))
 
   rest : List ℕ
   rest = drop (sizeOf b) b
@@ -213,8 +189,7 @@ module _ (f : ℕ) (s : Session) (p c b : List ℕ)
       let rs = commandRefusal (d .session) p (d .collecting) (take (sizeOf b) b) in
       rw (
         text-ended f (k .session) (k .packet) (d .collecting) rest e,
-        text-ends (k .session) (refusedOr rs at-unknown),
-        ended-lines rs at-unknown refl,
+        text-ends (k .session) rs,
         h .text,
       )
   went-text false e =
@@ -227,9 +202,9 @@ module _ (f : ℕ) (s : Session) (p c b : List ℕ)
       ≡ meaningText
       (eventsFirst (g .events)
       (cond r (cond (isEnded (k .session .phase)) last (meaningBy f (k .session) (k .packet) (d .collecting) rest))
-      (noMore (d .session) (refusedOr (g .refusals) (stoppedAt b)))))
+      (noMore (d .session) (g .refusals))))
   unfolding d g
-  on-text false e = stopped-text s p c b
+  on-text false e = stopped-text s p c
   on-text true e =
       let t = same s p c in
       let q : isEnded (drainedOf s p c .session .phase) ≡ false =
@@ -245,7 +220,7 @@ module _ (f : ℕ) (s : Session) (p c b : List ℕ)
 
 text-means : (f : ℕ) (s : Session) (p c b : List ℕ) → textBy f s p c b ≡ meaningText (meaningBy f s p c b)
 unfolding textBy meaningBy d g k last rest
-text-means zero s p c b = stopped-text s p c b
+text-means zero s p c b = stopped-text s p c
 text-means (suc f) s p c b = on-text f s p c b (text-means f) (reads (drainedOf s p c .session) b) refl
 
 pub capture-text : TextClaim

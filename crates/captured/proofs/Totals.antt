@@ -24,16 +24,12 @@ use Rattle.broadcast.specs.Drains.{Shown, note, unit}
 use Rattle.broadcast.specs.Demand3.{unitsOf}
 use Rattle.captured.specs.Events.{
   Placed,
-  Ending,
-  at-unknown,
   Meaning,
   Waited,
   nothingWaited,
   waitedThen,
   waitedBy,
   waitedOf,
-  refusedOr,
-  stoppedAt,
   commandRefusal,
   noMore,
   meaningBy,
@@ -187,11 +183,11 @@ again-suc f again s p c b z = go (reads (d .session) b) (isEnded (k .session .ph
     on : Meaning
     on = meaningBy f (k .session) (k .packet) (d .collecting) (drop (sizeOf b) b)
 
-    x : Ending
-    x = refusedOr (commandRefusal (d .session) p (d .collecting) (take (sizeOf b) b)) at-unknown
+    x : List ℕ
+    x = commandRefusal (d .session) p (d .collecting) (take (sizeOf b) b)
 
-    y : Ending
-    y = refusedOr (waitedOf s p c .refusals) (stoppedAt b)
+    y : List ℕ
+    y = waitedOf s p c .refusals
 
     a : Adds (s .tally) (d .session .tally) (waitedOf s p c .events)
     a = waited-adds p s c z

@@ -17,7 +17,6 @@ use Rattle.capture.specs.Capture.{fits, callOf}
 use Rattle.capture.proofs.Texts.{whole-size, size-whole}
 use Rattle.captured.specs.Events.{meaningBy, meaningOf}
 use Rattle.captured.specs.Claims.{configIn, Unstarted, CaptureWithoutC, CaptureRefusedC}
-use Rattle.captured.proofs.Texts.{stop-quiet}
 use Rattle.captured.proofs.Accounts.{front-letter, done-unfit, done-refused, onward}
 use Rattle.captured.proofs.Accounts.{fresh-before, fresh-waited, fresh-drained, fresh-means}
 
@@ -25,7 +24,7 @@ use Rattle.captured.proofs.Accounts.{fresh-before, fresh-waited, fresh-
 module _ (f : ℕ) (p c b : List ℕ) where
   none-whole : whole b ≡ false → Unstarted (onward f freshSession p c b) []
   unfolding onward freshSession
-  none-whole h = rw h (record { events = refl; refusal = stop-quiet b; frames = refl })
+  none-whole h = rw h (record { events = refl; refusal = refl; frames = refl })
 
   module _ (wh : whole b ≡ true) (w : Letter) (lw : letterOf (getD b 0 0) ≡ w) where
     letter : letterOf (getD (take (sizeOf b) b) 0 0) ≡ w
@@ -67,7 +66,7 @@ capture-without-c p c b h = go (length b) refl
 
     go : (n : ℕ) → length b ≡ n → Unstarted (meaningBy n freshSession p c b) []
     go zero e = unfold meaningBy in rw (fresh-waited p c, fresh-drained p c)
-        (record { events = refl; refusal = stop-quiet b; frames = unfold freshSession in refl })
+        (record { events = refl; refusal = refl; frames = unfold freshSession in refl })
     go (suc f) e = rw (fresh-means f p c b) (by f (whole b) refl)
 
 pub capture-refused-c : CaptureRefusedC

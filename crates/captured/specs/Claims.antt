@@ -19,7 +19,7 @@ use Rattle.broadcast.specs.Drains.{strip}
 use Rattle.broadcast.specs.Carried.{carriedUnits, intactUnits, Few, contents}
 use Rattle.broadcast.specs.Frames.{Frame, Whole, Damage, none}
 use Rattle.broadcast.specs.Demand3.{NoNote, unitsOf, slotsOf, kept}
-use Rattle.captured.specs.Events.{Placed, Meaning, meaningOf, meaningText, shownIn, noteCount, endRefusal}
+use Rattle.captured.specs.Events.{Placed, Meaning, meaningOf, meaningText, shownIn, noteCount}
 use Rattle.captured.specs.Calls.{commandCalls, arrivalsBy, refusalsBy, framesBy, shortRefusalsBy, shortFramesBy}
 use Rattle.captured.specs.Places.{placedBy}
 use Rattle.captured.specs.Written.{CanWriteFrames, captureBytes}
@@ -75,7 +75,7 @@ placedIn b = placedBy (configIn b) (λ k. fresh) searching blankLayout 120 0 (co
 pub record Accounts (p c b : List ℕ) : Type 0 where
   pub accounted : shownIn (meaningOf p c b .events) ≡ map strip (account (configIn b) (arrivalsIn b))
   pub placed : meaningOf p c b .events ≡ placedIn b
-  pub refusal : endRefusal (meaningOf p c b .ending) ≡ refusalsIn b
+  pub refusal : meaningOf p c b .refusal ≡ refusalsIn b
   pub frames : meaningOf p c b .tally .frames ≡ framesIn b % 2 ^ 64
 
 abbrev pub CaptureAccounts : Type 0
@@ -84,16 +84,16 @@ CaptureAccounts = (p c b : List ℕ) → Begins b → Suffice (configIn b) p c �
 -- with memories that do not suffice there is neither a note nor a unit, and what needs them is refused with 22
 pub record NoneShown (p c b : List ℕ) : Type 0 where
   pub events : meaningOf p c b .events ≡ []
-  pub refusal : endRefusal (meaningOf p c b .ending) ≡ shortRefusalsBy (configIn b .stream) 120 (commandCalls b)
+  pub refusal : meaningOf p c b .refusal ≡ shortRefusalsBy (configIn b .stream) 120 (commandCalls b)
   pub frames : meaningOf p c b .tally .frames ≡ shortFramesBy (configIn b .stream) 120 0 (commandCalls b) % 2 ^ 64
 
 abbrev pub CaptureShort : Type 0
 CaptureShort = (p c b : List ℕ) → Begins b → shortBy (configIn b) (length p) (length c) ≡ true → NoneShown p c b
 
--- without an accepted C first there is neither a note, nor a unit, nor a frame; rs: the refusal that ends it, if one does
+-- without an accepted C first there is neither a note, nor a unit, nor a frame; rs: the refusal that ends it, at most one number
 pub record Unstarted (m : Meaning) (rs : List ℕ) : Type 0 where
   pub events : m .events ≡ []
-  pub refusal : endRefusal (m .ending) ≡ rs
+  pub refusal : m .refusal ≡ rs
   pub frames : m .tally .frames ≡ 0
 
 -- no whole C comes first; or one that start refuses
@@ -121,7 +121,7 @@ pub record UndamagedCapture (start : List ℕ) (fs : List Frame) (p c : List ℕ
   pub begins : Begins start
   pub whole : Whole fs
   pub written : CanWriteFrames fs
-  pub none-refused : endRefusal (meaningOf p c (captureBytes start none fs) .ending) ≡ []
+  pub none-refused : meaningOf p c (captureBytes start none fs) .refusal ≡ []
   pub no-note : NoNote (shownIn (meaningOf p c (captureBytes start none fs) .events))
   pub few : Few (configIn start) (slotsOf (configIn start) fs)
 
@@ -130,7 +130,7 @@ pub record UndamagedCapture (start : List ℕ) (fs : List Frame) (p c : List ℕ
 pub record ExactLoss (start : List ℕ) (fs : List Frame) (d : Damage) (p₁ c₁ p₂ c₂ : List ℕ) : Type 0 where
   pub undamaged : unitsGiven p₁ c₁ (captureBytes start none fs) ≡ contents (carriedIn start fs)
   pub damaged : unitsGiven p₂ c₂ (captureBytes start d fs) ≡ contents (intactUnits (kept d) (carriedIn start fs))
-  pub none-refused : endRefusal (meaningOf p₂ c₂ (captureBytes start d fs) .ending) ≡ []
+  pub none-refused : meaningOf p₂ c₂ (captureBytes start d fs) .refusal ≡ []
 
 abbrev pub CaptureLoss : Type 0
 CaptureLoss =

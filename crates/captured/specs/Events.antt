@@ -1,4 +1,4 @@
--- The meaning of a capture: its notes and units, each with its frame and slot, how it ended, and its totals. Its text is made of that.
+-- The meaning of a capture: its notes and units, each with its frame and slot, its refusal, and its totals. Its text is made of that.
 use Prim.Native.Nat.{ℕ, zero, suc}
 use mathlib.Core.Bool.{cond}
 use mathlib.Core.List.{List, [], _∷_, _++_}
@@ -24,20 +24,14 @@ pub record Placed : Type 0 where
   pub shown : Shown
   pub len : ℕ
 
--- "It ends at the end, an unknown or cut command, or a refusal"
-pub data Ending : Type 0 where
-  at-the-end : Ending
-  at-unknown : Ending
-  at-cut : Ending
-  by-refusal : ℕ → Ending
-
--- `tally`: the frames, units and notes that were counted
+-- "It ends at the end, an unknown or cut command, or a refusal": `refusal` holds the number of that refusal, so at most one; `tally`
+-- the frames, units and notes that were counted
 pub record Meaning : Type 0 where
   pub events : List Placed
-  pub ending : Ending
+  pub refusal : List ℕ
   pub tally : Tally
 
--- what waited: the events that next gave until nothing waits, and its refusal if it was refused
+-- what waited: the events that next gave until nothing waits, and its refusal, so at most one number
 pub record Waited : Type 0 where
   pub events : List Placed
   pub refusals : List ℕ
@@ -72,16 +66,7 @@ waitedBy (suc f) s p c =
 unfoldable pub waitedOf : Session → List ℕ → List ℕ → Waited
 waitedOf s p c = waitedBy (suc (waits (s .state) p)) s p c
 
--- an ending, or the refusal that came before it
-abbrev pub refusedOr : List ℕ → Ending → Ending
-refusedOr [] e = e
-refusedOr (n ∷ ns) e = by-refusal n
-
--- where no whole command comes
-unfoldable pub stoppedAt : List ℕ → Ending
-stoppedAt b = cond (eqb (length b) 0) at-the-end (cond (eqb (sizeOf b) 0) at-unknown at-cut)
-
--- the refusal of a whole command b, if its call is made and refused
+-- the refusal of a whole command b: at most one number, and none where its call is not made
 unfoldable pub commandRefusal : Session → List ℕ → List ℕ → List ℕ → List ℕ
 commandRefusal s p c b =
     let l = letterOf (getD b 0 0) in
@@ -89,26 +74,26 @@ commandRefusal s p c b =
     cond (fits (s .phase) l) (cond (eqb r 0) [] (r ∷ [])) []
 
 abbrev pub eventsFirst : List Placed → Meaning → Meaning
-eventsFirst es m = record { events = es ++ m .events; ending = m .ending; tally = m .tally }
+eventsFirst es m = record { events = es ++ m .events; refusal = m .refusal; tally = m .tally }
 
 -- no event any more
-abbrev pub noMore : Session → Ending → Meaning
-noMore s e = record { events = []; ending = e; tally = s .tally }
+abbrev pub noMore : Session → List ℕ → Meaning
+noMore s rs = record { events = []; refusal = rs; tally = s .tally }
 
 -- from a session on, with the bytes b to come; `f` bounds the commands
 unfoldable pub meaningBy : ℕ → Session → List ℕ → List ℕ → List ℕ → Meaning
 meaningBy zero s p c b =
     let g = waitedOf s p c in
-    eventsFirst (g .events) (noMore (drainedOf s p c .session) (refusedOr (g .refusals) (stoppedAt b)))
+    eventsFirst (g .events) (noMore (drainedOf s p c .session) (g .refusals))
 meaningBy (suc f) s p c b =
     let g = waitedOf s p c in
     let d = drainedOf s p c in
     let x = take (sizeOf b) b in
     let k = doneOf (d .session) p (d .collecting) x in
     let on : Meaning = meaningBy f (k .session) (k .packet) (d .collecting) (drop (sizeOf b) b) in
-    let last : Meaning = noMore (k .session) (refusedOr (commandRefusal (d .session) p (d .collecting) x) at-unknown) in
+    let last : Meaning = noMore (k .session) (commandRefusal (d .session) p (d .collecting) x) in
     let went : Meaning = cond (isEnded (k .session .phase)) last on in
-    let none : Meaning = noMore (d .session) (refusedOr (g .refusals) (stoppedAt b)) in
+    let none : Meaning = noMore (d .session) (g .refusals) in
     eventsFirst (g .events) (cond (reads (d .session) b) went none)
 
 -- the meaning of the capture b, read with packet memory p and collecting memory c
@@ -124,21 +109,14 @@ unfoldable pub linesOf : List Placed → List ℕ
 linesOf [] = []
 linesOf (e ∷ es) = lineBy (e .shown) (e .frame) (e .slot) (e .len) ++ linesOf es
 
--- the number of the refusal that ended it, if one did
-abbrev pub endRefusal : Ending → List ℕ
-endRefusal at-the-end = []
-endRefusal at-unknown = []
-endRefusal at-cut = []
-endRefusal (by-refusal n) = n ∷ []
-
--- "line `refused N`"
+-- "line `refused N`", of at most one number
 abbrev pub refusedLines : List ℕ → List ℕ
 refusedLines [] = []
 refusedLines (n ∷ ns) = refusedLine n
 
 -- its text: the lines of the events, the refusal's, and "last `end frames units notes`"
 unfoldable pub meaningText : Meaning → List ℕ
-meaningText m = linesOf (m .events) ++ (refusedLines (endRefusal (m .ending)) ++ lastLine (m .tally))
+meaningText m = linesOf (m .events) ++ (refusedLines (m .refusal) ++ lastLine (m .tally))
 
 -- the notes and units alone, as a reading of calls shows them
 abbrev pub shownIn : List Placed → List Shown
