@@ -390,10 +390,10 @@ fresh-means f p c b =
 -- the first command
 module _ (p c b : List ℕ) (s : Begins b) where
   size : sizeOf b ≡ 42
-  size = size-by b Start (s .first)
+  size = size-by b Start (s .has-c .first)
 
   whole-first : whole b ≡ true
-  whole-first = size-whole b (omega (arith, size)) (omega (arith, size, s .long))
+  whole-first = size-whole b (omega (arith, size)) (omega (arith, size, s .has-c .long))
 
   unfoldable pub started-session : Session
   started-session = session (startOf (configIn b) .state) (freshSession .tally)
@@ -402,7 +402,7 @@ module _ (p c b : List ℕ) (s : Begins b) where
   unfolding doneOf callOf afterCall freshSession started-session
   start-done =
       let l : letterOf (getD (take (sizeOf b) b) 0 0) ≡ Start =
-      ap letterOf (front-letter b (omega (arith, size))) ∙ s .first in
+      ap letterOf (front-letter b (omega (arith, size))) ∙ s .has-c .first in
       rw (l, size, eq-eqb _ _ (s .accepted))
 
   onward-first : (f : ℕ) → onward f freshSession p c b ≡ meaningBy f started-session p c (drop (sizeOf b) b)
@@ -419,7 +419,7 @@ module _ (p c b : List ℕ) (s : Begins b) where
   accounts : Suffice (configIn b) p c → Accounts p c b
   unfolding meaningOf commandCalls account started-session
   accounts h =
-      let n : length b ≡ suc (length b - 1) = omega (arith, s .long) in
+      let n : length b ≡ suc (length b - 1) = omega (arith, s .has-c .long) in
       let r =
       told-by (configIn b) (length b - 1) started-session p c (drop (sizeOf b) b) [] (startOf (configIn b) .state) c searching (λ k. fresh)
       blankLayout 120 0 (idle-settled p started-session c refl start-owes)

@@ -202,7 +202,7 @@ module _ (start : List ℕ) (size : length start ≡ 42) (s : Begins start) (d :
 
   letter-same : letterOf (getD (captureBytes start d fs) 0 0) ≡ Start
   unfolding captureBytes
-  letter-same = ap letterOf (List·getD-append start (callsBytes (framesCalls d 0 fs)) 0 0 (omega (arith, size))) ∙ s .first
+  letter-same = ap letterOf (List·getD-append start (callsBytes (framesCalls d 0 fs)) 0 0 (omega (arith, size))) ∙ s .has-c .first
 
   pub calls-same : commandCalls (captureBytes start d fs) ≡ framesCalls d 0 fs
   unfolding commandCalls
@@ -213,13 +213,13 @@ module _ (start : List ℕ) (size : length start ≡ 42) (s : Begins start) (d :
       let n : length b ≡ length start + length (callsBytes ks) = unfold captureBytes in length-append start (callsBytes ks) in
       rw (size-by b Start letter-same, e) (calls-parsed ks (length b - 1) (calls-fit d 0 fs z) (omega (arith, n, size)))
 
+  long-same : 42 ≤ length (captureBytes start d fs)
+  unfolding captureBytes
+  long-same = omega (arith, length-append start (callsBytes (framesCalls d 0 fs)), size)
+
   pub begins-same : Begins (captureBytes start d fs)
   begins-same =
-      record {
-        first = letter-same;
-        long = unfold captureBytes in omega (arith, length-append start (callsBytes (framesCalls d 0 fs)), size);
-        accepted = rw config-same (s .accepted);
-      }
+      record { has-c = record { first = letter-same; long = long-same }; accepted = rw config-same (s .accepted) }
 
   pub accounts-same : (p c : List ℕ) → Suffice (configIn start) p c
       → (shownIn (meaningOf p c (captureBytes start d fs) .events)

@@ -4,6 +4,7 @@ pub mod Totals
 pub mod Drains
 pub mod Steps
 pub mod Accounts
+pub mod Prints
 pub mod Short
 pub mod Unstarted
 pub mod Written

@@ -7,14 +7,12 @@ use native.Mathlib.Omega.{arith}
 use lib.Dec.{eqb}
 use lib.ListN.{length, drop}
 use lib.Seq.{drop-at}
-use borrow.Author.Tests.{ltb-false}
 use Rattle.tmcc.specs.Layout.{blankLayout}
 use Rattle.tlv.specs.Run.{Arrival}
 use Rattle.tlv.specs.Row.{row, packetsBy, rowPackets}
 use Rattle.reassembly.specs.declared.config.Config.{Config}
 use Rattle.reassembly.specs.Sent.{sentAfter, sent}
 use Rattle.receiver.specs.declared.state.State.{State}
-use Rattle.delivery.specs.Choice.{neither}
 use Rattle.receiver.specs.Start.{startOf, freshState}
 use Rattle.receiver.specs.Slot.{shortBy}
 use Rattle.capture.specs.declared.command.Letter.the-variants.{Start}
@@ -36,13 +34,13 @@ use Rattle.captured.specs.Claims.{configIn, Begins, Suffice, UndamagedCa
 use Rattle.captured.proofs.Drains.{session}
 use Rattle.captured.proofs.Accounts.{onward-stops, idle-waited, mean-step, start-means, started-session}
 use Rattle.captured.proofs.FramesRead.{frames-fit, frames-carry, config-same, calls-same, begins-same, accounts-same}
-use Rattle.captured.proofs.Short.{capture-short}
+use Rattle.captured.proofs.Short.{short-shows, enough}
 
 -- with memories that suffice
 module _ (start : List ℕ) (fs : List Frame) (d : Damage) (p₁ c₁ p₂ c₂ : List ℕ) (u : UndamagedCapture start fs p₁ c₁)
     (hp : length p₁ ≡ length p₂) (hc : length c₁ ≡ length c₂) (q₁ : Suffice (configIn start) p₁ c₁) where
-  enough : ExactLoss start fs d p₁ c₁ p₂ c₂
-  enough =
+  exact : ExactLoss start fs d p₁ c₁ p₂ c₂
+  exact =
       let cfg = configIn start in
       let e = u .begins .accepted in
       let a₁ = accounts-same start (u .size) (u .begins) none fs (u .written) p₁ c₁ q₁ in
@@ -83,26 +81,22 @@ first-calls f fs d ds e = rw e
 module _ (start : List ℕ) (f : Frame) (fs : List Frame) (p c : List ℕ) (size : length start ≡ 42) (s : Begins start)
     (n : length (f .slots) ≡ 120) (z : CanWriteFrames (f ∷ fs))
     (e : meaningOf p c (captureBytes start none (f ∷ fs)) .refusal ≡ []) where
-  not-short : shortBy (configIn start) (length p) (length c) ≡ true → ⊥
-  not-short h = go (f .slots) refl
+  suffices : Suffice (configIn start) p c
+  suffices = go (shortBy (configIn start) (length p) (length c)) refl
     where
       g : configIn (captureBytes start none (f ∷ fs)) ≡ configIn start
       g = config-same start size s none (f ∷ fs) z
 
-      go : (ds : List (List ℕ)) → f .slots ≡ ds → ⊥
-      go [] q = omega (arith, n, ap length q)
-      go (d ∷ ds) q =
-          let a = capture-short p c (captureBytes start none (f ∷ fs)) (begins-same start size s none (f ∷ fs) z) (rw g h) in
+      none-short : shortBy (configIn start) (length p) (length c) ≡ true → (ds : List (List ℕ)) → f .slots ≡ ds → ⊥
+      none-short h [] q = omega (arith, n, ap length q)
+      none-short h (d ∷ ds) q =
+          let a = short-shows p c (captureBytes start none (f ∷ fs)) (begins-same start size s none (f ∷ fs) z) (rw g h) in
           let r = rw (g, calls-same start size s none (f ∷ fs) z, first-calls f fs d ds q) at (sym (a .refusal) ∙ e) in
           short-some (configIn start .stream) (f .block) d _ r
 
-  suffices : Suffice (configIn start) p c
-  unfolding shortBy
-  suffices = go (shortBy (configIn start) (length p) (length c)) refl
-    where
       go : (b : Bool) → shortBy (configIn start) (length p) (length c) ≡ b → Suffice (configIn start) p c
-      go true h = absurd (not-short h)
-      go false h = let w = neither _ _ h in record { packet = ltb-false _ _ (w .0); collecting = ltb-false _ _ (w .1) }
+      go true h = absurd (none-short h (f .slots) refl)
+      go false h = enough (configIn start) p c h
 
 -- without a frame: C alone gives nothing
 abbrev Nothing-read : Meaning → Type 0
@@ -125,9 +119,9 @@ unfolding meaningOf started-session freshState
 start-alone start d p c size s =
     let b = captureBytes start d [] in
     let w = begins-same start size s d [] tt in
-    let n : length b ≡ suc (length b - 1) = omega (arith, w .long) in
+    let n : length b ≡ suc (length b - 1) = omega (arith, w .has-c .long) in
     let r : drop (sizeOf b) b ≡ [] =
-    rw (size-by b Start (w .first)) (unfold captureBytes in unfold callsBytes in unfold framesCalls in drop-at start [] 42 size) in
+    rw (size-by b Start (w .has-c .first)) (unfold captureBytes in unfold callsBytes in unfold framesCalls in drop-at start [] 42 size) in
     let e = ap (λ (k : ℕ). meaningBy k freshSession p c b) n ∙ start-means p c b w (length b - 1)
     ∙ ap (λ (x : List ℕ). meaningBy (length b - 1) (session (startOf (configIn b) .state) (freshSession .tally)) p c x) r in
     let o = ap (λ (st : State). st .owed) (start-accepted (configIn b) (w .accepted) .1) in
@@ -147,5 +141,5 @@ capture-loss start [] d p₁ c₁ p₂ c₂ u hp hc =
       none-refused = a₂ .1;
     }
 capture-loss start (f ∷ fs) d p₁ c₁ p₂ c₂ u hp hc =
-    enough start (f ∷ fs) d p₁ c₁ p₂ c₂ u hp hc
+    exact start (f ∷ fs) d p₁ c₁ p₂ c₂ u hp hc
     (suffices start f fs p₁ c₁ (u .size) (u .begins) (u .whole .0) (u .written) (u .none-refused))

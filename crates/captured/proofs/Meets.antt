@@ -14,23 +14,26 @@ use Rattle.reassembly.specs.declared.config.Config.{Config}
 use Rattle.reassembly.specs.Run.{Content, fresh}
 use Rattle.receiver.specs.Start.{before, twiceBelow, twice, freshState, startRefusal, startOf}
 use Rattle.mmtp.specs.Watch.{lookupOf, firstFrom}
-use Rattle.capture.specs.Command.{letterOf, idsOf, configOf}
+use Rattle.capture.specs.Command.{letterOf, sizeOf, whole, idsOf, configOf}
 use Rattle.broadcast.specs.Account.{account}
 use Rattle.broadcast.specs.Drains.{strip}
-use Rattle.broadcast.specs.Calls.{Made}
+use Rattle.broadcast.specs.Calls.{Made, lost-frame}
 use Rattle.broadcast.specs.Carried.{carriedUnits, intactUnits, contents}
 use Rattle.broadcast.specs.Frames.{Frame, Damage, none}
 use Rattle.broadcast.specs.Demand3.{NoNote, Reads, slotsOf, kept}
 use Rattle.broadcast.specs.Broadcast.{config, frames, Assumed, Memories, Remain, slotLost, frameLost}
-use Rattle.receiver.specs.Slot.{packet-short, right-length}
+use Rattle.receiver.specs.Slot.{right-length}
 use Rattle.broadcast.proofs.SlotCalls.{SlotsFit}
 use Rattle.broadcast.proofs.Reading.{FramesFit, frames-fit}
 use Rattle.broadcast.proofs.Demand3.{start-at, shows-account, demand-3}
 use Rattle.broadcast.proofs.Broadcast.{broadcast-claims}
+use Rattle.captured.specs.Events.{meaningOf}
+use Rattle.captured.specs.Calls.{commandCallsBy, commandCalls, shortAt, shortRefusalsBy, shortFramesBy}
 use Rattle.captured.specs.Written.{CanWriteSlots, CanWriteFrames}
-use Rattle.captured.specs.Examples.{startBytes, leastPacket, leastCollecting, UnitsLeft, Examples}
+use Rattle.captured.specs.Examples.{startBytes, lossAlone, leastPacket, leastCollecting, UnitsLeft, Examples}
 use Rattle.captured.specs.Claims.{configIn, Begins, Suffice, UndamagedCapture}
 use Rattle.captured.proofs.FramesRead.{config-same, begins-same, accounts-same, frames-carry}
+use Rattle.captured.proofs.Short.{capture-short}
 use Rattle.captured.proofs.Losses.{capture-loss}
 
 slots-sized : (l : Layout) (s : ℕ) (ds : List (List ℕ)) → SlotsFit l s ds → CanWriteSlots ds
@@ -69,7 +72,25 @@ start-config = refl
 
 start-begins : Begins startBytes
 unfolding letterOf startOf startRefusal before twiceBelow twice freshState configOf idsOf be tab lookupOf firstFrom
-start-begins = record { first = refl; long = omega arith; accepted = refl }
+start-begins = record { has-c = record { first = refl; long = omega arith }; accepted = refl }
+
+-- C and X alone
+loss-begins : Begins lossAlone
+unfolding letterOf startOf startRefusal before twiceBelow twice freshState configOf idsOf be tab lookupOf firstFrom
+loss-begins = record { has-c = record { first = refl; long = omega arith }; accepted = refl }
+
+loss-calls : commandCalls lossAlone ≡ lost-frame ∷ []
+unfolding commandCalls commandCallsBy letterOf sizeOf whole
+loss-calls = refl
+
+loss-short : Suffice (configIn lossAlone) [] [] → ⊥
+loss-short s = omega (arith, s .packet)
+
+loss-shows : (meaningOf [] [] lossAlone .refusal ≡ 22 ∷ []) × (meaningOf [] [] lossAlone .tally .frames ≡ 1)
+unfolding shortRefusalsBy shortFramesBy shortAt
+loss-shows =
+    let a = capture-short [] [] lossAlone loss-begins loss-short in
+    (rw loss-calls at (a .refusal), rw loss-calls at (a .frames))
 
 long : Memories leastPacket leastCollecting
 long = broadcast-claims .2
@@ -109,10 +130,11 @@ examples =
       begins = λ d. begins-same startBytes refl start-begins d frames (undamaged .written);
       suffice = λ d. rw (config-same startBytes refl start-begins d frames (undamaged .written), start-config)
           (record { packet = omega (arith, long .0); collecting = unfold config in omega (arith, long .1) });
-      alone = start-begins;
-      short = rw start-config (packet-short config 0 0 (omega arith));
-      first = unfold letterOf in refl;
-      long = omega arith;
+      alone = loss-begins;
+      short = loss-short;
+      short-refused = loss-shows .0;
+      short-counted = loss-shows .1;
+      has-c = record { first = unfold letterOf in refl; long = omega arith };
       no-ids = unfold startOf in unfold startRefusal in unfold configOf in unfold idsOf in unfold be in unfold tab in refl;
       undamaged = undamaged;
       slot-lost = gives slotLost _ (b .6) (s .0) (s .1);

@@ -6,8 +6,10 @@ use mathlib.Core.List.{List, [], _∷_}
 use native.Mathlib.Omega.{arith}
 use lib.Dec.{eqb, ltb, leb}
 use lib.ListN.{length, getD, take, drop}
-use borrow.Author.Tests.{eqb-true, eqb-false, ne-eqb}
+use borrow.Author.Tests.{eqb-true, eqb-false, ne-eqb, ltb-false}
 use Rattle.tmcc.specs.Block.{decodeOf}
+use Rattle.reassembly.specs.declared.config.Config.{Config}
+use Rattle.delivery.specs.Choice.{neither}
 use Rattle.receiver.specs.declared.answer.Called.{Called}
 use Rattle.receiver.specs.declared.state.State.{State}
 use Rattle.receiver.specs.State.{withFrame, refused as refusedWith, accepted as acceptedAs}
@@ -31,7 +33,7 @@ use Rattle.captured.specs.Events.{Meaning, Waited, waitedBy, waitedOf, m
 use Rattle.broadcast.specs.Calls.{Call, frame, lost-frame, slot, lost-slot}
 use Rattle.captured.specs.Calls.{commandCall, callThen, commandCallsBy, commandCalls, slotAfter}
 use Rattle.captured.specs.Calls.{shortAt, shortRefusalsBy, shortFramesBy}
-use Rattle.captured.specs.Claims.{configIn, CaptureShort}
+use Rattle.captured.specs.Claims.{configIn, Begins, Suffice, NoneShown, CaptureShort}
 use Rattle.captured.proofs.Drains.{session}
 use Rattle.captured.proofs.Steps.{tallyAfter}
 use Rattle.captured.proofs.Accounts.{front-letter, done-unfit, done-refused, done-accepted, after-reads, behind-fits, behind-unfit}
@@ -272,10 +274,10 @@ module _ (p c : List ℕ) where
       rw (mean-step f (session st t) p c b (ap (λ (y : Waited). y .refusals) g), g, drain-idle (session st t) p c o)
       (onward-says f (says f) st t b n h o fr (whole b) refl)
 
-pub capture-short : CaptureShort
+pub short-shows : (p c b : List ℕ) → Begins b → shortBy (configIn b) (length p) (length c) ≡ true → NoneShown p c b
 unfolding meaningOf commandCalls started-session freshState
-capture-short p c b s h =
-    let n : length b ≡ suc (length b - 1) = omega (arith, s .long) in
+short-shows p c b s h =
+    let n : length b ≡ suc (length b - 1) = omega (arith, s .has-c .long) in
     let k = start-accepted (configIn b) (s .accepted) .1 in
     let e = ap (λ (i : ℕ). meaningBy i freshSession p c b) n ∙ start-means p c b s (length b - 1)
     ∙ ap (λ (st : State). meaningBy (length b - 1) (session st (freshSession .tally)) p c (drop (sizeOf b) b)) k in
@@ -286,3 +288,14 @@ capture-short p c b s h =
       refusal = ap (λ (m : Meaning). m .refusal) e ∙ a .1;
       frames = ap (λ (m : Meaning). m .tally .frames) e ∙ a .2;
     }
+
+pub enough : (cfg : Config) (p c : List ℕ) → shortBy cfg (length p) (length c) ≡ false → Suffice cfg p c
+unfolding shortBy
+enough cfg p c h = let w = neither _ _ h in record { packet = ltb-false _ _ (w .0); collecting = ltb-false _ _ (w .1) }
+
+pub capture-short : CaptureShort
+capture-short p c b s n = go (shortBy (configIn b) (length p) (length c)) refl
+  where
+    go : (x : Bool) → shortBy (configIn b) (length p) (length c) ≡ x → NoneShown p c b
+    go true h = short-shows p c b s h
+    go false h = absurd (n (enough (configIn b) p c h))

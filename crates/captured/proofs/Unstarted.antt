@@ -1,5 +1,5 @@
 -- A capture without an accepted C has no event.
-use Prim.Native.Nat.{ℕ, zero, suc, _<_}
+use Prim.Native.Nat.{ℕ, zero, suc}
 use mathlib.Core.Path.{_≡_, refl, ap, _∙_}
 use mathlib.Core.Bool.{Bool, true, false}
 use mathlib.Core.List.{List, [], _∷_}
@@ -16,7 +16,7 @@ use Rattle.capture.specs.Session.{freshSession}
 use Rattle.capture.specs.Capture.{fits, callOf}
 use Rattle.capture.proofs.Texts.{whole-size, size-whole}
 use Rattle.captured.specs.Events.{meaningBy, meaningOf}
-use Rattle.captured.specs.Claims.{configIn, Unstarted, CaptureWithoutC, CaptureRefusedC}
+use Rattle.captured.specs.Claims.{configIn, HasC, Unstarted, CaptureWithoutC, CaptureRefusedC}
 use Rattle.captured.proofs.Accounts.{front-letter, done-unfit, done-refused, onward}
 use Rattle.captured.proofs.Accounts.{fresh-before, fresh-waited, fresh-drained, fresh-means}
 
@@ -47,9 +47,9 @@ module _ (f : ℕ) (p c b : List ℕ) where
       rw (wh, d .0, d .1, fresh-before) (record { events = refl; refusal = rw e refl; frames = unfold freshSession in refl })
 
 -- C is the first command that fits
-without-c : (f : ℕ) (p c b : List ℕ) (w : Letter) → whole b ≡ true → letterOf (getD b 0 0) ≡ w → (w ≡ Start → length b < 42)
+without-c : (f : ℕ) (p c b : List ℕ) (w : Letter) → whole b ≡ true → letterOf (getD b 0 0) ≡ w → (HasC b → ⊥)
     → Unstarted (onward f freshSession p c b) []
-without-c f p c b Start wh lw h = absurd (omega (arith, whole-size b wh, size-by b Start lw, h refl))
+without-c f p c b Start wh lw h = absurd (h (record { first = lw; long = omega (arith, whole-size b wh, size-by b Start lw) }))
 without-c f p c b Frame wh lw h = not-c f p c b wh Frame lw refl
 without-c f p c b LostFrame wh lw h = not-c f p c b wh LostFrame lw refl
 without-c f p c b Slot wh lw h = not-c f p c b wh Slot lw refl
@@ -71,10 +71,10 @@ capture-without-c p c b h = go (length b) refl
 
 pub capture-refused-c : CaptureRefusedC
 unfolding meaningOf
-capture-refused-c p c b first long n = go (length b) refl
+capture-refused-c p c b h n = go (length b) refl
   where
     go : (k : ℕ) → length b ≡ k → Unstarted (meaningBy k freshSession p c b) (startOf (configIn b) .refusal ∷ [])
-    go zero e = absurd (omega (arith, long, e))
+    go zero e = absurd (omega (arith, h .long, e))
     go (suc f) e =
-        let s = size-by b Start first in
-        rw (fresh-means f p c b) (refused-c f p c b (size-whole b (omega (arith, s)) (omega (arith, s, long))) first n)
+        let s = size-by b Start (h .first) in
+        rw (fresh-means f p c b) (refused-c f p c b (size-whole b (omega (arith, s)) (omega (arith, s, h .long))) (h .first) n)

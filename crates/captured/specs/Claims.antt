@@ -1,8 +1,7 @@
 -- What is claimed of captures: what the text says, that it is the account of what arrived, and what a fade takes from it.
-use Prim.Native.Nat.{ℕ, _*_, _%_, _^_, _<_, _≤_}
+use Prim.Native.Nat.{ℕ, _*_, _%_, _^_, _≤_}
 use mathlib.Core.Path.{_≡_}
-use mathlib.Core.Bool.{true}
-use mathlib.Core.List.{List, [], _∷_, map}
+use mathlib.Core.List.{List, [], _∷_, _++_, map}
 use lib.ListN.{length, getD, take}
 use Rattle.tmcc.specs.Layout.{blankLayout}
 use Rattle.tlv.specs.Run.{Arrival, searching}
@@ -10,7 +9,7 @@ use Rattle.reassembly.specs.declared.config.Config.{Config}
 use Rattle.reassembly.specs.Run.{Content, Labelled, fresh}
 use Rattle.intake.specs.Slot.{packetMemory}
 use Rattle.receiver.specs.Start.{startOf}
-use Rattle.receiver.specs.Slot.{shortBy}
+use Rattle.lines.specs.Line.{endLine}
 use Rattle.capture.specs.declared.command.Letter.the-variants.{Start}
 use Rattle.capture.specs.Command.{letterOf, configOf}
 use Rattle.capture.specs.Capture.{captureOf}
@@ -19,7 +18,7 @@ use Rattle.broadcast.specs.Drains.{strip}
 use Rattle.broadcast.specs.Carried.{carriedUnits, intactUnits, Few, contents}
 use Rattle.broadcast.specs.Frames.{Frame, Whole, Damage, none}
 use Rattle.broadcast.specs.Demand3.{NoNote, unitsOf, slotsOf, kept}
-use Rattle.captured.specs.Events.{Placed, Meaning, meaningOf, meaningText, shownIn, noteCount}
+use Rattle.captured.specs.Events.{Placed, Meaning, meaningOf, linesOf, refusedLines, meaningText, shownIn, noteCount}
 use Rattle.captured.specs.Calls.{commandCalls, arrivalsBy, refusalsBy, framesBy, shortRefusalsBy, shortFramesBy}
 use Rattle.captured.specs.Places.{placedBy}
 use Rattle.captured.specs.Written.{CanWriteFrames, captureBytes}
@@ -44,10 +43,13 @@ TotalsClaim = (p c b : List ℕ) → Counted (meaningOf p c b)
 abbrev pub configIn : List ℕ → Config
 configIn b = configOf (take 42 b)
 
--- a whole C comes first, and start accepts it
-pub record Begins (b : List ℕ) : Type 0 where
+-- a whole C comes first; and start accepts it
+pub record HasC (b : List ℕ) : Type 0 where
   pub first : letterOf (getD b 0 0) ≡ Start
   pub long : 42 ≤ length b
+
+pub record Begins (b : List ℕ) : Type 0 where
+  pub has-c : HasC b
   pub accepted : startOf (configIn b) .refusal ≡ 0
 
 -- packet memory of 21,433 bytes at least, and collecting memory of n × R
@@ -55,8 +57,9 @@ pub record Suffice (cfg : Config) (p c : List ℕ) : Type 0 where
   pub packet : packetMemory ≤ length p
   pub collecting : cfg .watch .n * cfg .limit ≤ length c
 
--- by the commands behind C, up to the first that is refused: the own live slots that arrive; the number of that refusal, if there
--- is one; how many frames have begun; and the account of what arrives, each note and unit with its frame and slot
+-- by the commands behind C, up to the first that is refused: the own live slots that arrive; the number of that refusal, so at most
+-- one; how many frames have begun; and the account of what arrives, each note and unit with its frame and slot. No slot is due before
+-- the first frame, as after slot 120 of one: so 120, and a layout that is not asked
 abbrev pub arrivalsIn : List ℕ → List (Arrival (ℕ × ℕ))
 arrivalsIn b = arrivalsBy (configIn b .stream) blankLayout 120 0 (commandCalls b)
 
@@ -69,7 +72,23 @@ framesIn b = framesBy (configIn b .stream) blankLayout 120 0 (commandCalls b)
 abbrev pub placedIn : List ℕ → List Placed
 placedIn b = placedBy (configIn b) (λ k. fresh) searching blankLayout 120 0 (commandCalls b)
 
--- the capture's notes and units are, in order and with all that they carry, the account of what arrives by its commands; each has
+-- what is printed: a line for each note and unit of that account, in order; the refusal's line; and how many frames, units and notes
+-- there were. Counts have 64 bits
+abbrev pub endIn : List ℕ → List ℕ
+endIn b =
+    endLine (framesIn b % 2 ^ 64) (length (unitsOf (shownIn (placedIn b))) % 2 ^ 64) (noteCount (shownIn (placedIn b)) % 2 ^ 64)
+
+abbrev pub CapturePrints : Type 0
+CapturePrints =
+    (p c b : List ℕ) → Begins b → Suffice (configIn b) p c
+    → captureOf p c b ≡ linesOf (placedIn b) ++ (refusedLines (refusalsIn b) ++ endIn b)
+
+-- so neither what the memories hold first nor how much longer they are matters
+abbrev pub MemoriesAlike : Type 0
+MemoriesAlike =
+    (p₁ c₁ p₂ c₂ b : List ℕ) → Begins b → Suffice (configIn b) p₁ c₁ → Suffice (configIn b) p₂ c₂ → captureOf p₁ c₁ b ≡ captureOf p₂ c₂ b
+
+-- the same of the capture's meaning: its notes and units are, in order and with all that they carry, the account of what arrives by its commands; each has
 -- the frame and slot of its command, and a unit's line the length of its bytes; the capture is refused where the commands say, and
 -- its frames are those that have begun
 pub record Accounts (p c b : List ℕ) : Type 0 where
@@ -88,7 +107,7 @@ pub record NoneShown (p c b : List ℕ) : Type 0 where
   pub frames : meaningOf p c b .tally .frames ≡ shortFramesBy (configIn b .stream) 120 0 (commandCalls b) % 2 ^ 64
 
 abbrev pub CaptureShort : Type 0
-CaptureShort = (p c b : List ℕ) → Begins b → shortBy (configIn b) (length p) (length c) ≡ true → NoneShown p c b
+CaptureShort = (p c b : List ℕ) → Begins b → (Suffice (configIn b) p c → ⊥) → NoneShown p c b
 
 -- without an accepted C first there is neither a note, nor a unit, nor a frame; rs: the refusal that ends it, at most one number
 pub record Unstarted (m : Meaning) (rs : List ℕ) : Type 0 where
@@ -98,11 +117,11 @@ pub record Unstarted (m : Meaning) (rs : List ℕ) : Type 0 where
 
 -- no whole C comes first; or one that start refuses
 abbrev pub CaptureWithoutC : Type 0
-CaptureWithoutC = (p c b : List ℕ) → (letterOf (getD b 0 0) ≡ Start → length b < 42) → Unstarted (meaningOf p c b) []
+CaptureWithoutC = (p c b : List ℕ) → (HasC b → ⊥) → Unstarted (meaningOf p c b) []
 
 abbrev pub CaptureRefusedC : Type 0
 CaptureRefusedC =
-    (p c b : List ℕ) → letterOf (getD b 0 0) ≡ Start → 42 ≤ length b → (startOf (configIn b) .refusal ≡ 0 → ⊥)
+    (p c b : List ℕ) → HasC b → (startOf (configIn b) .refusal ≡ 0 → ⊥)
     → Unstarted (meaningOf p c b) (startOf (configIn b) .refusal ∷ [])
 
 -- 3. Loss. Two captures of the same frames behind the same C, one undamaged, the other with any S replaced by L and any frame by X.

@@ -1,23 +1,24 @@
 -- Captures that meet what the claims assume: the broadcast of three frames, written behind its C; and a C that start refuses.
-use Prim.Native.Nat.{ℕ, _≤_}
+use Prim.Native.Nat.{ℕ}
 use mathlib.Core.Path.{_≡_}
-use mathlib.Core.Bool.{true}
 use mathlib.Core.List.{List, [], _∷_, _++_}
-use lib.ListN.{length, getD, replicate}
+use lib.ListN.{replicate}
 use Rattle.reassembly.specs.Run.{Content}
 use Rattle.receiver.specs.Start.{startOf}
-use Rattle.receiver.specs.Slot.{shortBy}
-use Rattle.capture.specs.declared.command.Letter.the-variants.{Start}
-use Rattle.capture.specs.Command.{letterOf}
 use Rattle.broadcast.specs.Example.{joined}
 use Rattle.broadcast.specs.Frames.{Damage}
 use Rattle.broadcast.specs.Broadcast.{config, frames, whole, slotLost, frameLost}
+use Rattle.captured.specs.Events.{meaningOf}
 use Rattle.captured.specs.Written.{captureBytes}
-use Rattle.captured.specs.Claims.{configIn, Begins, Suffice, unitsGiven, UndamagedCapture}
+use Rattle.captured.specs.Claims.{configIn, HasC, Begins, Suffice, unitsGiven, UndamagedCapture}
 
 -- C: stream 0x0102, CID 2, packet_ids 17 and 18, R = 100
 abbrev pub startBytes : List ℕ
 startBytes = 67 ∷ 1 ∷ 2 ∷ 0 ∷ 2 ∷ 2 ∷ 0 ∷ 17 ∷ 0 ∷ 18 ∷ (replicate 28 0 ++ (0 ∷ 0 ∷ 0 ∷ 100 ∷ []))
+
+-- X behind it
+abbrev pub lossAlone : List ℕ
+lossAlone = startBytes ++ (88 ∷ [])
 
 -- C with n = 0
 abbrev pub noIds : List ℕ
@@ -39,12 +40,13 @@ pub record Examples : Type 0 where
   -- what CaptureAccounts assumes, whatever is lost
   pub begins : (d : Damage) → Begins (captureBytes startBytes d frames)
   pub suffice : (d : Damage) → Suffice (configIn (captureBytes startBytes d frames)) leastPacket leastCollecting
-  -- what CaptureShort assumes: C alone, and no memories
-  pub alone : Begins startBytes
-  pub short : shortBy (configIn startBytes) 0 0 ≡ true
+  -- what CaptureShort assumes, and what it says then: X without memories is counted, and next behind it refused
+  pub alone : Begins lossAlone
+  pub short : Suffice (configIn lossAlone) [] [] → ⊥
+  pub short-refused : meaningOf [] [] lossAlone .refusal ≡ 22 ∷ []
+  pub short-counted : meaningOf [] [] lossAlone .tally .frames ≡ 1
   -- what CaptureRefusedC assumes
-  pub first : letterOf (getD noIds 0 0) ≡ Start
-  pub long : 42 ≤ length noIds
+  pub has-c : HasC noIds
   pub no-ids : startOf (configIn noIds) .refusal ≡ 1
   -- what CaptureLoss assumes
   pub undamaged : UndamagedCapture startBytes frames leastPacket leastCollecting
