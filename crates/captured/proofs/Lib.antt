@@ -10,4 +10,5 @@ pub mod Unstarted
 pub mod Written
 pub mod FramesRead
 pub mod Losses
+pub mod Places
 pub mod Meets

@@ -29,10 +29,13 @@ use Rattle.broadcast.proofs.Demand3.{start-at, shows-account, demand-3}
 use Rattle.broadcast.proofs.Broadcast.{broadcast-claims}
 use Rattle.captured.specs.Events.{meaningOf}
 use Rattle.captured.specs.Calls.{commandCallsBy, commandCalls, shortAt, shortRefusalsBy, shortFramesBy}
-use Rattle.captured.specs.Written.{CanWriteSlots, CanWriteFrames}
+use Rattle.captured.specs.Places.{placedBy}
+use Rattle.captured.specs.Written.{framesCalls, CanWriteSlots, CanWriteFrames, captureBytes}
 use Rattle.captured.specs.Examples.{startBytes, lossAlone, leastPacket, leastCollecting, UnitsLeft, Examples}
 use Rattle.captured.specs.Claims.{configIn, Begins, Suffice, UndamagedCapture}
-use Rattle.captured.proofs.FramesRead.{config-same, begins-same, accounts-same, frames-carry}
+use Rattle.captured.proofs.Accounts.{capture-accounts}
+use Rattle.captured.proofs.FramesRead.{config-same, calls-same, begins-same, accounts-same, frames-carry}
+use Rattle.captured.proofs.Places.{frame-lost-placed}
 use Rattle.captured.proofs.Short.{capture-short}
 use Rattle.captured.proofs.Losses.{capture-loss}
 
@@ -120,6 +123,23 @@ gives d us h ys r =
     capture-loss startBytes frames d leastPacket leastCollecting leastPacket leastCollecting undamaged refl refl .damaged
     ∙ rw start-config (leaves d us h ys r)
 
+module _ (d : Damage) where
+  begun : Begins (captureBytes startBytes d frames)
+  begun = begins-same startBytes refl start-begins d frames (undamaged .written)
+
+  config-is : configIn (captureBytes startBytes d frames) ≡ config
+  config-is = config-same startBytes refl start-begins d frames (undamaged .written) ∙ start-config
+
+  lasts : Suffice (configIn (captureBytes startBytes d frames)) leastPacket leastCollecting
+  unfolding config
+  lasts = rw config-is (record { packet = omega (arith, long .0); collecting = omega (arith, long .1) })
+
+  places : meaningOf leastPacket leastCollecting (captureBytes startBytes d frames) .events
+      ≡ placedBy config (λ k. fresh) searching blankLayout 120 0 (framesCalls d 0 frames)
+  places =
+      rw (config-is, calls-same startBytes refl start-begins d frames (undamaged .written)) at
+      (capture-accounts leastPacket leastCollecting (captureBytes startBytes d frames) begun lasts .placed)
+
 pub examples : Examples
 examples =
     let b = broadcast-claims in
@@ -127,9 +147,8 @@ examples =
     let f = b .5 leastPacket leastCollecting long .1 in
     record {
       says = start-config;
-      begins = λ d. begins-same startBytes refl start-begins d frames (undamaged .written);
-      suffice = λ d. rw (config-same startBytes refl start-begins d frames (undamaged .written), start-config)
-          (record { packet = omega (arith, long .0); collecting = unfold config in omega (arith, long .1) });
+      begins = begun;
+      suffice = lasts;
       alone = loss-begins;
       short = loss-short;
       short-refused = loss-shows .0;
@@ -139,4 +158,5 @@ examples =
       undamaged = undamaged;
       slot-lost = gives slotLost _ (b .6) (s .0) (s .1);
       frame-lost = gives frameLost _ (b .7) (f .0) (f .1);
+      frame-lost-places = places frameLost ∙ frame-lost-placed;
     }

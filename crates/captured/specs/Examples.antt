@@ -2,13 +2,14 @@
 use Prim.Native.Nat.{ℕ}
 use mathlib.Core.Path.{_≡_}
 use mathlib.Core.List.{List, [], _∷_, _++_}
-use lib.ListN.{replicate}
+use lib.ListN.{length, replicate}
 use Rattle.reassembly.specs.Run.{Content}
 use Rattle.receiver.specs.Start.{startOf}
+use Rattle.broadcast.specs.Drains.{note, unit}
 use Rattle.broadcast.specs.Example.{joined}
 use Rattle.broadcast.specs.Frames.{Damage}
 use Rattle.broadcast.specs.Broadcast.{config, frames, whole, slotLost, frameLost}
-use Rattle.captured.specs.Events.{meaningOf}
+use Rattle.captured.specs.Events.{Placed, meaningOf}
 use Rattle.captured.specs.Written.{captureBytes}
 use Rattle.captured.specs.Claims.{configIn, HasC, Begins, Suffice, unitsGiven, UndamagedCapture}
 
@@ -35,6 +36,17 @@ leastCollecting = replicate 200 0
 abbrev pub UnitsLeft : Damage → List Content → Type 0
 UnitsLeft d us = unitsGiven leastPacket leastCollecting (captureBytes startBytes d frames) ≡ us
 
+-- what the capture with frame 1 lost brings, with the frames and slots of its lines, which count from 1, while the damage counts from
+-- 0: the lost frame's note has frame 2 and slot 0; the unit of packet_id 18 ends in the first slot behind it, as slot 1 of frame 3
+abbrev pub frameLostPlaces : List Placed
+frameLostPlaces =
+    record { frame = 1; slot = 6; shown = unit (whole 9); len = 2 }
+    ∷ record { frame = 2; slot = 0; shown = note 40 0; len = 0 }
+    ∷ record { frame = 3; slot = 1; shown = unit joined; len = length (joined .bytes) }
+    ∷ record { frame = 3; slot = 6; shown = note 60 17; len = 0 }
+    ∷ record { frame = 3; slot = 6; shown = unit (whole 12); len = 2 }
+    ∷ []
+
 pub record Examples : Type 0 where
   pub says : configIn startBytes ≡ config
   -- what CaptureAccounts assumes, whatever is lost
@@ -53,3 +65,4 @@ pub record Examples : Type 0 where
   -- and what is left then: with slot 5 of frame 0 lost, the unit whose packet it ended is gone; with frame 1 lost, both of its units
   pub slot-lost : UnitsLeft slotLost (whole 10 ∷ whole 11 ∷ joined ∷ whole 12 ∷ [])
   pub frame-lost : UnitsLeft frameLost (whole 9 ∷ joined ∷ whole 12 ∷ [])
+  pub frame-lost-places : meaningOf leastPacket leastCollecting (captureBytes startBytes frameLost frames) .events ≡ frameLostPlaces
