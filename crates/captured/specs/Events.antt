@@ -7,7 +7,7 @@ use lib.Dec.{eqb}
 use Rattle.delivery.specs.declared.event.Event.{Event}
 use Rattle.delivery.specs.declared.event.Event.the-variants.{Nothing, Note, Unit, Refused}
 use Rattle.receiver.specs.Next.{nextOf}
-use Rattle.lines.specs.Line.{noteLine, refusedLine, placeText, unitWord, carriedText, field, newline}
+use Rattle.lines.specs.Line.{unitText, noteLine, refusedLine}
 use Rattle.capture.specs.declared.session.Session.{Session}
 use Rattle.capture.specs.declared.session.Tally.{Tally}
 use Rattle.capture.specs.Command.{letterOf, sizeOf}
@@ -103,7 +103,7 @@ meaningOf p c b = meaningBy (length b) freshSession p c b
 -- "Lines: `frame slot unit id kind psn mpu length`, `frame slot note number id`"
 abbrev pub lineBy : Shown → ℕ → ℕ → ℕ → List ℕ
 lineBy (note n id) f s l = noteLine f s n id
-lineBy (unit u) f s l = placeText f s ++ unitWord ++ carriedText (u .info) ++ field l newline
+lineBy (unit u) f s l = unitText f s (u .info) l
 
 unfoldable pub linesOf : List Placed → List ℕ
 linesOf [] = []

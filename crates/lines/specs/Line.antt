@@ -52,9 +52,12 @@ unfoldable pub carriedText : Unit → List ℕ
 carriedText u =
     field (u .«packet_id») space ++ field (u .kind) space ++ field (u .psn .0) space ++ field (u .mpu) space
 
+-- the line of a unit of len bytes
+abbrev pub unitText : ℕ → ℕ → Unit → ℕ → List ℕ
+unitText frame slot u len = placeText frame slot ++ unitWord ++ carriedText u ++ field len newline
+
 unfoldable pub unitLine : ℕ → ℕ → Given → List ℕ
-unitLine frame slot g =
-    placeText frame slot ++ unitWord ++ carriedText (g .unit) ++ field (g .place .len) newline
+unitLine frame slot g = unitText frame slot (g .unit) (g .place .len)
 
 -- "id `-` for notes up to 51"
 unfoldable pub idText : ℕ → ℕ → List ℕ
