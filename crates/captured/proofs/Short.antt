@@ -31,11 +31,11 @@ use Rattle.capture.proofs.Texts.{whole-size}
 use Rattle.broadcast.proofs.Demand3.{start-accepted}
 use Rattle.captured.specs.Events.{Meaning, Waited, waitedBy, waitedOf, meaningBy, meaningOf}
 use Rattle.broadcast.specs.Calls.{Call, frame, lost-frame, slot, lost-slot}
-use Rattle.captured.specs.Calls.{commandCall, callThen, commandCallsBy, commandCalls, slotAfter}
+use Rattle.captured.specs.Calls.{callThen, commandCallsBy, commandCalls, slotAfter}
 use Rattle.captured.specs.Calls.{shortAt, shortRefusalsBy, shortFramesBy}
 use Rattle.captured.specs.Claims.{configIn, Begins, Suffice, NoneShown, CaptureShort}
 use Rattle.captured.proofs.Drains.{session}
-use Rattle.captured.proofs.Steps.{tallyAfter}
+use Rattle.captured.proofs.Steps.{commandCall, tallyAfter}
 use Rattle.captured.proofs.Accounts.{front-letter, done-unfit, done-refused, done-accepted, after-reads, behind-fits, behind-unfit}
 use Rattle.captured.proofs.Accounts.{calls-none, calls-some, onward, onward-stops, idle-waited, mean-step, start-means}
 use Rattle.captured.proofs.Accounts.{started-session}

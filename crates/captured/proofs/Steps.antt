@@ -29,15 +29,24 @@ use Rattle.capture.specs.Session.{inFrame, inSlot}
 use Rattle.capture.specs.Capture.{fits, callOf}
 use Rattle.broadcast.specs.Account.{events, lanesAfter}
 use Rattle.broadcast.specs.Drains.{strip, stops}
-use Rattle.broadcast.specs.Calls.{Machine, Call, frame, lost-frame, slot, lost-slot, Did, did, numbered}
+use Rattle.broadcast.specs.Calls.{Machine, Call, frame, lost-frame, slot, lost-slot, next, Did, did, numbered}
 use Rattle.broadcast.specs.Machines.{At}
 use Rattle.broadcast.proofs.Items.{Item, lost-frame-item}
 use Rattle.broadcast.proofs.SlotCalls.{slot-step}
 use Rattle.broadcast.proofs.Reading.{framed, frame-did, frame-at}
-use Rattle.captured.specs.Calls.{commandCall, refusalAt, layoutAfter, slotAfter, framesAfter, arrivalBy}
+use Rattle.captured.specs.Calls.{refusalAt, layoutAfter, slotAfter, framesAfter, arrivalBy}
 use Rattle.captured.specs.Places.{slotNumber}
 
--- what the call of a command does
+-- the call of a command that makes one
+abbrev pub commandCall : Letter → List ℕ → Call
+commandCall Start b = next
+commandCall Frame b = frame (drop 1 b)
+commandCall LostFrame b = lost-frame
+commandCall Slot b = slot (drop 3 b)
+commandCall LostSlot b = lost-slot
+commandCall Unknown b = next
+
+-- what it does
 pub did-call : (w : Letter) (m : Machine) (b : List ℕ) → fits Reading w ≡ true
     → let r = callOf w (m .state) (m .packet) (m .collecting) b in
     did (commandCall w b) m

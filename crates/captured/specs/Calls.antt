@@ -15,22 +15,14 @@ use Rattle.capture.specs.Command.{letterOf, sizeOf, whole}
 use Rattle.broadcast.specs.Calls.{Call, frame, lost-frame, slot, lost-slot, next}
 use Rattle.broadcast.specs.Frames.{slotAt, ifOwn}
 
--- F, X, S and L with their operands; C and an unknown command make no such call
-abbrev pub commandCall : Letter → List ℕ → Call
-commandCall Start b = next
-commandCall Frame b = frame (drop 1 b)
-commandCall LostFrame b = lost-frame
-commandCall Slot b = slot (drop 3 b)
-commandCall LostSlot b = lost-slot
-commandCall Unknown b = next
-
--- the call of a whole command b, and the calls behind it; "C comes first and once; another order counts as unknown"
+-- the call of a whole command b, F, X, S or L with its operands, before the calls ks behind it; C and an unknown command make no call,
+-- and nothing behind them is read: "C comes first and once; another order counts as unknown"
 abbrev pub callThen : Letter → List ℕ → List Call → List Call
 callThen Start b ks = []
-callThen Frame b ks = commandCall Frame b ∷ ks
-callThen LostFrame b ks = commandCall LostFrame b ∷ ks
-callThen Slot b ks = commandCall Slot b ∷ ks
-callThen LostSlot b ks = commandCall LostSlot b ∷ ks
+callThen Frame b ks = frame (drop 1 b) ∷ ks
+callThen LostFrame b ks = lost-frame ∷ ks
+callThen Slot b ks = slot (drop 3 b) ∷ ks
+callThen LostSlot b ks = lost-slot ∷ ks
 callThen Unknown b ks = []
 
 -- the commands of b, as far as they are whole and known; `f` bounds them
@@ -44,10 +36,14 @@ commandCallsBy (suc f) b =
 unfoldable pub commandCalls : List ℕ → List Call
 commandCalls b = commandCallsBy (length b - 1) (drop (sizeOf b) b)
 
--- slot s of a frame with layout l being due, or at 120 a frame: the number with which a call is refused, 0 for none; "10 block not
--- 1,178 bytes; 11 slots due ..", then 12, 13, 14 of the block; "20 none due; .. 23 wrong length"
+-- slot s being due, or at 120 a frame: the number with which a frame is refused, 0 for none; "10 block not 1,178 bytes; 11 slots
+-- due ..", then 12, 13, 14 of the block
+abbrev pub frameRefusal : ℕ → ℕ → List ℕ → ℕ
+frameRefusal stream s b = cond (eqb (length b) 1178) (cond (ltb s 120) 11 (decodeOf b stream .refusal)) 10
+
+-- the same of any call, in a frame with layout l; "20 none due; .. 23 wrong length"
 unfoldable pub refusalAt : ℕ → Layout → ℕ → Call → ℕ
-refusalAt stream l s (frame b) = cond (eqb (length b) 1178) (cond (ltb s 120) 11 (decodeOf b stream .refusal)) 10
+refusalAt stream l s (frame b) = frameRefusal stream s b
 refusalAt stream l s lost-frame = cond (ltb s 120) 11 0
 refusalAt stream l s (slot d) = cond (leb 120 s) 20 (cond (wrongLength (getD (l .lengths) s 0) (length d)) 23 0)
 refusalAt stream l s lost-slot = cond (leb 120 s) 20 0
@@ -92,7 +88,7 @@ arrivalsBy stream l s n (k ∷ ks) =
     arrivalBy l s n k ++ arrivalsBy stream (layoutAfter stream l k) (slotAfter s k) (framesAfter n k) ks in
     cond (eqb (refusalAt stream l s k) 0) on []
 
--- the number of that refusal, if there is one
+-- the number of that refusal: at most one
 unfoldable pub refusalsBy : ℕ → Layout → ℕ → List Call → List ℕ
 refusalsBy stream l s [] = []
 refusalsBy stream l s (k ∷ ks) =
@@ -109,7 +105,7 @@ framesBy stream l s n (k ∷ ks) =
 -- where memories do not suffice, "22 packet memory under 21,433 bytes or collecting memory under n × R" refuses each slot that is due,
 -- and next after X: the number with which a call, or next after it, is refused
 unfoldable pub shortAt : ℕ → ℕ → Call → ℕ
-shortAt stream s (frame b) = cond (eqb (length b) 1178) (cond (ltb s 120) 11 (decodeOf b stream .refusal)) 10
+shortAt stream s (frame b) = frameRefusal stream s b
 shortAt stream s lost-frame = cond (ltb s 120) 11 22
 shortAt stream s (slot d) = cond (leb 120 s) 20 22
 shortAt stream s lost-slot = cond (leb 120 s) 20 22
