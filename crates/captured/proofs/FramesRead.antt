@@ -18,15 +18,14 @@ use Rattle.capture.specs.declared.command.Letter.the-variants.{Start}
 use Rattle.capture.specs.Command.{letterOf, size-by}
 use Rattle.broadcast.specs.Account.{account}
 use Rattle.broadcast.specs.Drains.{strip}
-use Rattle.broadcast.specs.Calls.{Call, frame, lost-frame, slot}
+use Rattle.broadcast.specs.Calls.{Call, frame, lost-frame, slot, Todo}
 use Rattle.broadcast.specs.Frames.{Frame, Whole, Damage, none, slotCall, slotAt, ifOwn}
-use Rattle.broadcast.specs.Frames.{arriving, slotsArrive, layoutIn, frameArrives, arrivals}
+use Rattle.broadcast.specs.Frames.{slotsTodo, frameTodo, reading, arriving, slotsArrive, layoutIn, frameArrives, arrivals}
 use Rattle.broadcast.proofs.SlotCalls.{SlotsFit}
 use Rattle.broadcast.proofs.Reading.{FramesFit}
 use Rattle.captured.specs.Events.{meaningOf, shownIn}
 use Rattle.captured.specs.Calls.{commandCalls, refusalAt, layoutAfter, slotAfter, framesAfter, arrivalBy, arrivalsBy, refusalsBy}
-use Rattle.captured.specs.Written.{callsBytes, slotsCalls, frameCalls, framesCalls, captureBytes}
-use Rattle.captured.specs.Written.{CanWriteAll, CanWriteSlots, CanWriteFrames}
+use Rattle.captured.specs.Written.{callsBytes, CanWriteAll, callsIn, framesCalls, CanWriteFrames, captureBytes}
 use Rattle.captured.specs.Claims.{configIn, Begins, Suffice}
 use Rattle.captured.proofs.Accounts.{capture-accounts}
 use Rattle.captured.proofs.Written.{calls-parsed}
@@ -83,31 +82,31 @@ slot-after stream l s n false d = (refl, refl, refl)
 
 module _ (stream : ℕ) where
   -- the slots of a frame
-  slots-carry : (gone : ℕ → Bool) (i : ℕ) (l : Layout) (s : ℕ) (ds : List (List ℕ)) (ks : List Call) → s + length ds ≡ 120 → SlotsFit l s ds
-      → (arrivalsBy stream l s (suc i) (slotsCalls gone s ds ++ ks) ≡ slotsArrive l gone i s ds ++ arrivalsBy stream l 120 (suc i) ks)
-      × (refusalsBy stream l s (slotsCalls gone s ds ++ ks) ≡ refusalsBy stream l 120 ks)
-  unfolding slotsCalls slotsArrive
-  slots-carry gone i l s [] ks n w = let e : s ≡ 120 = omega (arith, n) in (rw e, rw e)
-  slots-carry gone i l s (d ∷ ds) ks n w =
-      let c = call-on stream l s (suc i) (slotCall (gone s) d) (slotsCalls gone (suc s) ds ++ ks)
+  slots-carry : (gone : ℕ → Bool) (i : ℕ) (l : Layout) (s : ℕ) (ds : List (List ℕ)) (ts : List Todo) → s + length ds ≡ 120 → SlotsFit l s ds
+      → (arrivalsBy stream l s (suc i) (callsIn (slotsTodo gone s ds ++ ts)) ≡ slotsArrive l gone i s ds ++ arrivalsBy stream l 120 (suc i) (callsIn ts))
+      × (refusalsBy stream l s (callsIn (slotsTodo gone s ds ++ ts)) ≡ refusalsBy stream l 120 (callsIn ts))
+  unfolding callsIn slotsTodo slotsArrive
+  slots-carry gone i l s [] ts n w = let e : s ≡ 120 = omega (arith, n) in (rw e, rw e)
+  slots-carry gone i l s (d ∷ ds) ts n w =
+      let c = call-on stream l s (suc i) (slotCall (gone s) d) (callsIn (slotsTodo gone (suc s) ds ++ ts))
       (slot-passes stream l s (gone s) d (omega (arith, n)) (w .0)) in
       let a = slot-after stream l s (suc i) (gone s) d in
-      let r = slots-carry gone i l (suc s) ds ks (omega (arith, n)) (w .1) in (
+      let r = slots-carry gone i l (suc s) ds ts (omega (arith, n)) (w .1) in (
         c .0 ∙ rw (a .0, a .1, a .2, slot-arrives l s i (gone s) d, r .0)
             (sym (append-assoc (ifOwn l s (arriving (gone s) (i, s) (slotAt l s d))) (slotsArrive l gone i (suc s) ds)
-            (arrivalsBy stream l 120 (suc i) ks))),
+            (arrivalsBy stream l 120 (suc i) (callsIn ts)))),
         c .1 ∙ rw (a .0, a .1) (r .1),
       )
 
-  slots-told : (i : ℕ) (l : Layout) (s : ℕ) (ds : List (List ℕ)) (ks : List Call) → s + length ds ≡ 120
-      → refusalsBy stream l s (slotsCalls (none .slots i) s ds ++ ks) ≡ [] → SlotsFit l s ds
-  unfolding slotsCalls
-  slots-told i l s [] ks n e = tt
-  slots-told i l s (d ∷ ds) ks n e =
-      let z = call-passes stream l s 0 (slot d) (slotsCalls (none .slots i) (suc s) ds ++ ks) e in
+  slots-told : (i : ℕ) (l : Layout) (s : ℕ) (ds : List (List ℕ)) (ts : List Todo) → s + length ds ≡ 120
+      → refusalsBy stream l s (callsIn (slotsTodo (none .slots i) s ds ++ ts)) ≡ [] → SlotsFit l s ds
+  unfolding callsIn slotsTodo
+  slots-told i l s [] ts n e = tt
+  slots-told i l s (d ∷ ds) ts n e =
+      let z = call-passes stream l s 0 (slot d) (callsIn (slotsTodo (none .slots i) (suc s) ds ++ ts)) e in
       let w = slot-length stream l s d z in
-      let c = call-on stream l s 0 (slot d) (slotsCalls (none .slots i) (suc s) ds ++ ks) z in
-      (w, slots-told i l (suc s) ds ks (omega (arith, n)) (sym (c .1) ∙ e))
+      let c = call-on stream l s 0 (slot d) (callsIn (slotsTodo (none .slots i) (suc s) ds ++ ts)) z in
+      (w, slots-told i l (suc s) ds ts (omega (arith, n)) (sym (c .1) ∙ e))
 
   frame-passes : (l : Layout) (b : List ℕ) → decodeOf b stream .refusal ≡ 0 → refusalAt stream l 120 (frame b) ≡ 0
   unfolding refusalAt
@@ -133,23 +132,24 @@ module _ (stream : ℕ) where
   frame-carries : (d : Damage) (i : ℕ) (f : Frame) (fs : List Frame) (l : Layout) (gone : Bool) → decodeOf (f .block) stream .refusal ≡ 0
       → length (f .slots) ≡ 120 → SlotsFit (layoutIn stream f) 0 (f .slots)
       → ((l' : Layout) → Carries d (suc i) fs l' (framesCalls d (suc i) fs))
-      → (arrivalsBy stream l 120 i (frameCalls gone (d .slots i) f ++ framesCalls d (suc i) fs)
+      → (arrivalsBy stream l 120 i (callsIn (frameTodo gone (d .slots i) f ++ reading d (suc i) fs))
       ≡ frameArrives gone (layoutIn stream f) (d .slots i) i (f .slots) ++ arrivals stream d (suc i) fs)
-      × (refusalsBy stream l 120 (frameCalls gone (d .slots i) f ++ framesCalls d (suc i) fs) ≡ [])
+      × (refusalsBy stream l 120 (callsIn (frameTodo gone (d .slots i) f ++ reading d (suc i) fs)) ≡ [])
+  unfolding callsIn
   frame-carries d i f fs l true e n w again =
       let c = call-on stream l 120 i lost-frame (framesCalls d (suc i) fs) (loss-passes l) in
       let r = again l in
       (c .0 ∙ ap (λ (x : List (Arrival (ℕ × ℕ))). lost ∷ x) (r .0), c .1 ∙ r .1)
   frame-carries d i f fs l false e n w again =
-      let ks = framesCalls d (suc i) fs in
+      let ts = reading d (suc i) fs in
       let l' = layoutIn stream f in
-      let c = call-on stream l 120 i (frame (f .block)) (slotsCalls (d .slots i) 0 (f .slots) ++ ks) (frame-passes l (f .block) e) in
-      let s = slots-carry (d .slots i) i l' 0 (f .slots) ks (omega (arith, n)) w in
+      let c = call-on stream l 120 i (frame (f .block)) (callsIn (slotsTodo (d .slots i) 0 (f .slots) ++ ts)) (frame-passes l (f .block) e) in
+      let s = slots-carry (d .slots i) i l' 0 (f .slots) ts (omega (arith, n)) w in
       let r = again l' in
       (c .0 ∙ s .0 ∙ ap (λ (x : List (Arrival (ℕ × ℕ))). slotsArrive l' (d .slots i) i 0 (f .slots) ++ x) (r .0), c .1 ∙ s .1 ∙ r .1)
 
   pub frames-carry : (d : Damage) (i : ℕ) (fs : List Frame) (l : Layout) → FramesFit stream fs → Carries d i fs l (framesCalls d i fs)
-  unfolding framesCalls arrivals
+  unfolding callsIn reading arrivals
   frames-carry d i [] l w = (unfold arrivalsBy in refl, unfold refusalsBy in refl)
   frames-carry d i (f ∷ fs) l w =
       frame-carries d i f fs l (d .frames i) (w .0) (w .1) (w .2) (λ l'. frames-carry d (suc i) fs l' (w .3))
@@ -157,42 +157,48 @@ module _ (stream : ℕ) where
   -- an undamaged capture that is not refused tells that they fit
   pub frames-fit : (i : ℕ) (fs : List Frame) (l : Layout) → Whole fs → refusalsBy stream l 120 (framesCalls none i fs) ≡ []
       → FramesFit stream fs
-  unfolding framesCalls
+  unfolding callsIn reading
   frames-fit i [] l n e = tt
   frames-fit i (f ∷ fs) l n e =
-      let ks = framesCalls none (suc i) fs in
+      let ts = reading none (suc i) fs in
       let l' = layoutIn stream f in
-      let ss = slotsCalls (none .slots i) 0 (f .slots) ++ ks in
+      let ss = callsIn (slotsTodo (none .slots i) 0 (f .slots) ++ ts) in
       let z = call-passes stream l 120 i (frame (f .block)) ss e in
       let c = call-on stream l 120 i (frame (f .block)) ss z in
       let h = sym (c .1) ∙ e in
-      let w = slots-told i l' 0 (f .slots) ks (omega (arith, n .0)) h in
-      let s = slots-carry (none .slots i) i l' 0 (f .slots) ks (omega (arith, n .0)) w in
+      let w = slots-told i l' 0 (f .slots) ts (omega (arith, n .0)) h in
+      let s = slots-carry (none .slots i) i l' 0 (f .slots) ts (omega (arith, n .0)) w in
       (frame-decodes l (f .block) z, n .0, w, frames-fit (suc i) fs l' (n .1) (sym (s .1) ∙ h))
 
--- frames that can be written
+-- where the commands of frames can be written, so can those of damaged ones
 slot-fits : (b : Bool) (d : List ℕ) (ks : List Call) → length d ≤ 65535 → CanWriteAll ks → CanWriteAll (slotCall b d ∷ ks)
 slot-fits true d ks h k = (tt, k)
 slot-fits false d ks h k = (h, k)
 
-slots-fit : (gone : ℕ → Bool) (s : ℕ) (ds : List (List ℕ)) (ks : List Call) → CanWriteSlots ds → CanWriteAll ks
-    → CanWriteAll (slotsCalls gone s ds ++ ks)
-unfolding slotsCalls
-slots-fit gone s [] ks h k = k
-slots-fit gone s (d ∷ ds) ks h k =
-    slot-fits (gone s) d (slotsCalls gone (suc s) ds ++ ks) (h .0) (slots-fit gone (suc s) ds ks (h .1) k)
+module _ (i : ℕ) (ts : List Todo) where
+  slots-left : (s : ℕ) (ds : List (List ℕ)) → CanWriteAll (callsIn (slotsTodo (none .slots i) s ds ++ ts)) → CanWriteAll (callsIn ts)
+  unfolding callsIn slotsTodo
+  slots-left s [] h = h
+  slots-left s (d ∷ ds) h = slots-left (suc s) ds (h .1)
 
-frame-fits : (b : Bool) (gone : ℕ → Bool) (f : Frame) (ks : List Call) → length (f .block) ≡ 1178 → CanWriteSlots (f .slots)
-    → CanWriteAll ks
-    → CanWriteAll (frameCalls b gone f ++ ks)
-frame-fits true gone f ks h z k = (tt, k)
-frame-fits false gone f ks h z k = (h, slots-fit gone 0 (f .slots) ks z k)
+  slots-fit : (gone : ℕ → Bool) (us : List Todo) (s : ℕ) (ds : List (List ℕ)) → (CanWriteAll (callsIn ts) → CanWriteAll (callsIn us))
+      → CanWriteAll (callsIn (slotsTodo (none .slots i) s ds ++ ts)) → CanWriteAll (callsIn (slotsTodo gone s ds ++ us))
+  unfolding callsIn slotsTodo
+  slots-fit gone us s [] k h = k h
+  slots-fit gone us s (d ∷ ds) k h =
+      slot-fits (gone s) d (callsIn (slotsTodo gone (suc s) ds ++ us)) (h .0) (slots-fit gone us (suc s) ds k (h .1))
 
-calls-fit : (d : Damage) (i : ℕ) (fs : List Frame) → CanWriteFrames fs → CanWriteAll (framesCalls d i fs)
-unfolding framesCalls
-calls-fit d i [] h = tt
+  frame-fits : (b : Bool) (gone : ℕ → Bool) (us : List Todo) (f : Frame) → (CanWriteAll (callsIn ts) → CanWriteAll (callsIn us))
+      → CanWriteAll (callsIn (frameTodo false (none .slots i) f ++ ts)) → CanWriteAll (callsIn (frameTodo b gone f ++ us))
+  unfolding callsIn
+  frame-fits true gone us f k h = (tt, k (slots-left 0 (f .slots) (h .1)))
+  frame-fits false gone us f k h = (h .0, slots-fit gone us 0 (f .slots) k (h .1))
+
+calls-fit : (d : Damage) (i : ℕ) (fs : List Frame) → CanWriteAll (framesCalls none i fs) → CanWriteAll (framesCalls d i fs)
+unfolding reading
+calls-fit d i [] h = h
 calls-fit d i (f ∷ fs) h =
-    frame-fits (d .frames i) (d .slots i) f (framesCalls d (suc i) fs) (h .0) (h .1) (calls-fit d (suc i) fs (h .2))
+    frame-fits i (reading none (suc i) fs) (d .frames i) (d .slots i) (reading d (suc i) fs) f (calls-fit d (suc i) fs) h
 
 -- a capture behind C
 module _ (start : List ℕ) (size : length start ≡ 42) (s : Begins start) (d : Damage) (fs : List Frame) (z : CanWriteFrames fs) where

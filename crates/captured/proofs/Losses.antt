@@ -24,12 +24,12 @@ use Rattle.broadcast.specs.Account.{account}
 use Rattle.broadcast.specs.Carried.{inputs, rowInputs, carriedUnits}
 use Rattle.broadcast.specs.Drains.{strip}
 use Rattle.broadcast.specs.Calls.{Call, frame, slot}
-use Rattle.broadcast.specs.Frames.{Frame, Damage, none, ownSlots}
+use Rattle.broadcast.specs.Frames.{Frame, Damage, none, slotsTodo, reading, ownSlots}
 use Rattle.broadcast.specs.Demand3.{NoNote, unitsOf, slotsOf}
 use Rattle.broadcast.proofs.Demand3.{start-accepted, start-at, shows-account, made, demand-3}
 use Rattle.captured.specs.Events.{Placed, Meaning, Waited, meaningBy, meaningOf, shownIn}
 use Rattle.captured.specs.Calls.{shortAt, shortRefusalsBy}
-use Rattle.captured.specs.Written.{callsBytes, slotsCalls, framesCalls, CanWriteFrames, captureBytes}
+use Rattle.captured.specs.Written.{callsBytes, callsIn, framesCalls, CanWriteFrames, captureBytes}
 use Rattle.captured.specs.Claims.{configIn, Begins, Suffice, UndamagedCapture, ExactLoss, CaptureLoss}
 use Rattle.captured.proofs.Drains.{session}
 use Rattle.captured.proofs.Accounts.{onward-stops, idle-waited, mean-step, start-means, started-session}
@@ -74,8 +74,8 @@ short-some stream b d ks e = go (eqb (shortAt stream 120 (frame b)) 0) e
     go false h = let y : _≡_ {A = ℕ} 0 1 = cc in omega arith
 
 first-calls : (f : Frame) (fs : List Frame) (d : List ℕ) (ds : List (List ℕ)) → f .slots ≡ d ∷ ds
-    → framesCalls none 0 (f ∷ fs) ≡ frame (f .block) ∷ slot d ∷ (slotsCalls (none .slots 0) 1 ds ++ framesCalls none 1 fs)
-unfolding framesCalls slotsCalls
+    → framesCalls none 0 (f ∷ fs) ≡ frame (f .block) ∷ slot d ∷ callsIn (slotsTodo (none .slots 0) 1 ds ++ reading none 1 fs)
+unfolding callsIn reading slotsTodo
 first-calls f fs d ds e = rw e
 
 module _ (start : List ℕ) (f : Frame) (fs : List Frame) (p c : List ℕ) (size : length start ≡ 42) (s : Begins start)
@@ -115,13 +115,13 @@ nothing-read (suc f) st t p c o =
 
 start-alone : (start : List ℕ) (d : Damage) (p c : List ℕ) → length start ≡ 42 → Begins start
     → Nothing-read (meaningOf p c (captureBytes start d []))
-unfolding meaningOf started-session freshState
+unfolding meaningOf started-session freshState callsIn reading
 start-alone start d p c size s =
     let b = captureBytes start d [] in
     let w = begins-same start size s d [] tt in
     let n : length b ≡ suc (length b - 1) = omega (arith, w .has-c .long) in
     let r : drop (sizeOf b) b ≡ [] =
-    rw (size-by b Start (w .has-c .first)) (unfold captureBytes in unfold callsBytes in unfold framesCalls in drop-at start [] 42 size) in
+    rw (size-by b Start (w .has-c .first)) (unfold captureBytes in unfold callsBytes in drop-at start [] 42 size) in
     let e = ap (λ (k : ℕ). meaningBy k freshSession p c b) n ∙ start-means p c b w (length b - 1)
     ∙ ap (λ (x : List ℕ). meaningBy (length b - 1) (session (startOf (configIn b) .state) (freshSession .tally)) p c x) r in
     let o = ap (λ (st : State). st .owed) (start-accepted (configIn b) (w .accepted) .1) in

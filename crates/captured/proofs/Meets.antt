@@ -1,7 +1,7 @@
 -- What is assumed of an undamaged capture is met wherever what demand 3 assumes is, and by the broadcast of three frames.
 use Prim.Native.Nat.{ℕ, suc}
 use mathlib.Core.Path.{_≡_, refl, sym, ap, _∙_, subst}
-use mathlib.Core.List.{List, [], _∷_, map}
+use mathlib.Core.List.{List, [], _∷_, _++_, map}
 use native.Mathlib.Omega.{arith}
 use lib.ListN.{length}
 use Rattle.wire.specs.Field.{be}
@@ -17,9 +17,9 @@ use Rattle.mmtp.specs.Watch.{lookupOf, firstFrom}
 use Rattle.capture.specs.Command.{letterOf, sizeOf, whole, idsOf, configOf}
 use Rattle.broadcast.specs.Account.{account}
 use Rattle.broadcast.specs.Drains.{strip}
-use Rattle.broadcast.specs.Calls.{Made, lost-frame}
+use Rattle.broadcast.specs.Calls.{Made, Todo, lost-frame}
 use Rattle.broadcast.specs.Carried.{carriedUnits, intactUnits, contents}
-use Rattle.broadcast.specs.Frames.{Frame, Damage, none}
+use Rattle.broadcast.specs.Frames.{Frame, Damage, none, slotsTodo, reading}
 use Rattle.broadcast.specs.Demand3.{NoNote, Reads, slotsOf, kept}
 use Rattle.broadcast.specs.Broadcast.{config, frames, Assumed, Memories, Remain, slotLost, frameLost}
 use Rattle.receiver.specs.Slot.{right-length}
@@ -30,7 +30,7 @@ use Rattle.broadcast.proofs.Broadcast.{broadcast-claims}
 use Rattle.captured.specs.Events.{meaningOf}
 use Rattle.captured.specs.Calls.{commandCallsBy, commandCalls, shortAt, shortRefusalsBy, shortFramesBy}
 use Rattle.captured.specs.Places.{placedBy}
-use Rattle.captured.specs.Written.{framesCalls, CanWriteSlots, CanWriteFrames, captureBytes}
+use Rattle.captured.specs.Written.{CanWriteAll, callsIn, framesCalls, captureBytes}
 use Rattle.captured.specs.Examples.{startBytes, lossAlone, leastPacket, leastCollecting, UnitsLeft, Examples}
 use Rattle.captured.specs.Claims.{configIn, Begins, Suffice, UndamagedCapture}
 use Rattle.captured.proofs.Accounts.{capture-accounts}
@@ -39,14 +39,19 @@ use Rattle.captured.proofs.Places.{frame-lost-placed}
 use Rattle.captured.proofs.Short.{capture-short}
 use Rattle.captured.proofs.Losses.{capture-loss}
 
-slots-sized : (l : Layout) (s : ℕ) (ds : List (List ℕ)) → SlotsFit l s ds → CanWriteSlots ds
-slots-sized l s [] w = tt
-slots-sized l s (d ∷ ds) w = (omega (arith, right-length _ _ (w .0) .0), slots-sized l (suc s) ds (w .1))
+slots-sized : (l : Layout) (i s : ℕ) (ds : List (List ℕ)) (ts : List Todo) → SlotsFit l s ds → CanWriteAll (callsIn ts)
+    → CanWriteAll (callsIn (slotsTodo (none .slots i) s ds ++ ts))
+unfolding callsIn slotsTodo
+slots-sized l i s [] ts w k = k
+slots-sized l i s (d ∷ ds) ts w k = (omega (arith, right-length _ _ (w .0) .0), slots-sized l i (suc s) ds ts (w .1) k)
 
-frames-sized : (stream : ℕ) (fs : List Frame) → FramesFit stream fs → CanWriteFrames fs
-frames-sized stream [] w = tt
-frames-sized stream (f ∷ fs) w =
-    (tmcc-accepted (f .block) stream (w .0) .size, slots-sized _ 0 (f .slots) (w .2), frames-sized stream fs (w .3))
+frames-sized : (stream i : ℕ) (fs : List Frame) → FramesFit stream fs → CanWriteAll (framesCalls none i fs)
+unfolding callsIn reading
+frames-sized stream i [] w = tt
+frames-sized stream i (f ∷ fs) w = (
+  tmcc-accepted (f .block) stream (w .0) .size,
+  slots-sized _ i 0 (f .slots) (reading none (suc i) fs) (w .2) (frames-sized stream (suc i) fs (w .3)),
+)
 
 pub undamaged-met : (start : List ℕ) (fs : List Frame) (p c : List ℕ) (xs : List Made) → length start ≡ 42 → Begins start
     → Suffice (configIn start) p c → Assumed (configIn start) fs p c xs → UndamagedCapture start fs p c
@@ -54,7 +59,7 @@ undamaged-met start fs p c xs size s h a =
     let cfg = configIn start in
     let at = start-at cfg p c (s .accepted) (h .packet) (h .collecting) in
     let w = frames-fit cfg 0 fs blankLayout _ searching (λ k. fresh) xs at (a .whole-frames) (a .reads) (a .none-refused) in
-    let z = frames-sized (cfg .stream) fs w in
+    let z = frames-sized (cfg .stream) 0 fs w in
     let k = frames-carry (cfg .stream) none 0 fs blankLayout w in
     let e = accounts-same start size s none fs z p c h in
     let r = shows-account cfg (s .accepted) fs w none p c at xs (a .reads) in

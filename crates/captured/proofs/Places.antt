@@ -23,10 +23,11 @@ use Rattle.reassembly.specs.Join.{interrupted, begun, counterFollows, grown, ex
 use Rattle.reassembly.specs.Run.{step, fresh}
 use Rattle.receiver.specs.Slot.{wrongLength}
 use Rattle.broadcast.specs.Account.{readOf, events, lanesAfter}
+use Rattle.broadcast.specs.Frames.{slotsTodo, reading}
 use Rattle.broadcast.specs.Broadcast.{config, block, opening, closing, slotsOver, frames, frameLost}
 use Rattle.captured.specs.Calls.{refusalAt}
 use Rattle.captured.specs.Places.{placedBy}
-use Rattle.captured.specs.Written.{slotsCalls, framesCalls}
+use Rattle.captured.specs.Written.{callsIn, framesCalls}
 use Rattle.captured.specs.Examples.{frameLostPlaces}
 
 pub frame-lost-placed : placedBy config (λ k. fresh) searching blankLayout 120 0 (framesCalls frameLost 0 frames) ≡ frameLostPlaces
@@ -37,5 +38,5 @@ unfolding be tab allBelow countBelow lastBelow dataBytes within used unused mode
     readingOf headRead lookedUp bodyRead indicatorOf fragmentTypeOf mpuOf signallingOf parsedOf counterFits aggregationFits unitsFit
     tested payloadOf piecesOf fieldBytes fieldsOf pieceOf singleFits agrees nextPsn heard gap unheard interrupted begun
     counterFollows grown extended followed acted joinOf notesOf step readOf events lanesAfter config opening closing slotsOver frames
-    refusalAt wrongLength placedBy slotsCalls framesCalls
+    refusalAt wrongLength placedBy slotsTodo reading callsIn
 frame-lost-placed = refl

@@ -1,11 +1,10 @@
 -- Captures as they are written: the bytes of a list of calls, and the calls that read a list of frames, whole or damaged.
-use Prim.Native.Nat.{ℕ, suc, _/_, _%_, _≤_}
+use Prim.Native.Nat.{ℕ, _/_, _%_, _≤_}
 use mathlib.Core.Path.{_≡_}
-use mathlib.Core.Bool.{Bool, true, false}
 use mathlib.Core.List.{List, [], _∷_, _++_}
 use lib.ListN.{length}
-use Rattle.broadcast.specs.Calls.{Call, frame, lost-frame, slot, lost-slot, next}
-use Rattle.broadcast.specs.Frames.{Frame, Damage, slotCall}
+use Rattle.broadcast.specs.Calls.{Call, frame, lost-frame, slot, lost-slot, next, Todo, call, drain, show}
+use Rattle.broadcast.specs.Frames.{Frame, Damage, none, reading}
 
 -- "F (1,178), X lost frame, S (2-byte length, then data), L lost slot"
 unfoldable pub commandBytes : Call → List ℕ
@@ -31,29 +30,20 @@ abbrev pub CanWriteAll : List Call → Type 0
 CanWriteAll [] = Unit {0}
 CanWriteAll (k ∷ ks) = CanWrite k × CanWriteAll ks
 
--- the slots from number s on, S or L for each
-unfoldable pub slotsCalls : (ℕ → Bool) → ℕ → List (List ℕ) → List Call
-slotsCalls gone s [] = []
-slotsCalls gone s (d ∷ ds) = slotCall (gone s) d ∷ slotsCalls gone (suc s) ds
+-- the calls of a reading that a command makes: next has none, since the capture program calls it by itself, nor has show
+unfoldable pub callsIn : List Todo → List Call
+callsIn [] = []
+callsIn (call k ∷ ts) = k ∷ callsIn ts
+callsIn (drain ∷ ts) = callsIn ts
+callsIn (show g ∷ ts) = callsIn ts
 
--- F with its slots, or X
-abbrev pub frameCalls : Bool → (ℕ → Bool) → Frame → List Call
-frameCalls true gone f = lost-frame ∷ []
-frameCalls false gone f = frame (f .block) ∷ slotsCalls gone 0 (f .slots)
-
--- the frames from number i on
-unfoldable pub framesCalls : Damage → ℕ → List Frame → List Call
-framesCalls d i [] = []
-framesCalls d i (f ∷ fs) = frameCalls (d .frames i) (d .slots i) f ++ framesCalls d (suc i) fs
+-- the calls that read the frames from number i on: F with S or L for each slot, or X
+abbrev pub framesCalls : Damage → ℕ → List Frame → List Call
+framesCalls d i fs = callsIn (reading d i fs)
 
 -- frames whose commands can be written: blocks of 1,178 bytes, and slots whose length has two bytes
-abbrev pub CanWriteSlots : List (List ℕ) → Type 0
-CanWriteSlots [] = Unit {0}
-CanWriteSlots (d ∷ ds) = (length d ≤ 65535) × CanWriteSlots ds
-
 abbrev pub CanWriteFrames : List Frame → Type 0
-CanWriteFrames [] = Unit {0}
-CanWriteFrames (f ∷ fs) = (length (f .block) ≡ 1178) × CanWriteSlots (f .slots) × CanWriteFrames fs
+CanWriteFrames fs = CanWriteAll (framesCalls none 0 fs)
 
 -- the capture of frames, whole or damaged, behind the bytes of C
 unfoldable pub captureBytes : List ℕ → Damage → List Frame → List ℕ
