@@ -36,17 +36,20 @@ use Rattle.captured.proofs.Accounts.{onward-stops, idle-waited, mean-st
 use Rattle.captured.proofs.FramesRead.{frames-fit, frames-carry, config-same, calls-same, begins-same, accounts-same}
 use Rattle.captured.proofs.Short.{short-shows, enough}
 
+begun : {start : List ℕ} {fs : List Frame} {p c : List ℕ} → UndamagedCapture start fs p c → Begins start
+begun u = record { has-c = record { first = u .first; long = omega (arith, u .size) }; accepted = u .accepted }
+
 -- with memories that suffice
 module _ (start : List ℕ) (fs : List Frame) (d : Damage) (p₁ c₁ p₂ c₂ : List ℕ) (u : UndamagedCapture start fs p₁ c₁)
     (hp : length p₁ ≡ length p₂) (hc : length c₁ ≡ length c₂) (q₁ : Suffice (configIn start) p₁ c₁) where
   exact : ExactLoss start fs d p₁ c₁ p₂ c₂
   exact =
       let cfg = configIn start in
-      let e = u .begins .accepted in
-      let a₁ = accounts-same start (u .size) (u .begins) none fs (u .written) p₁ c₁ q₁ in
+      let e = u .accepted in
+      let a₁ = accounts-same start (u .size) (begun u) none fs (u .written) p₁ c₁ q₁ in
       let w = frames-fit (cfg .stream) 0 fs blankLayout (u .whole) (sym (a₁ .1) ∙ u .none-refused) in
       let q₂ : Suffice cfg p₂ c₂ = record { packet = rw hp at (q₁ .packet); collecting = rw hc at (q₁ .collecting) } in
-      let a₂ = accounts-same start (u .size) (u .begins) d fs (u .written) p₂ c₂ q₂ in
+      let a₂ = accounts-same start (u .size) (begun u) d fs (u .written) p₂ c₂ q₂ in
       let k₁ = frames-carry (cfg .stream) none 0 fs blankLayout w in
       let k₂ = frames-carry (cfg .stream) d 0 fs blankLayout w in
       let at₁ = start-at cfg p₁ c₁ e (q₁ .packet) (q₁ .collecting) in
@@ -133,8 +136,8 @@ none-carried cfg = refl
 
 pub capture-loss : CaptureLoss
 capture-loss start [] d p₁ c₁ p₂ c₂ u hp hc =
-    let a₁ = start-alone start none p₁ c₁ (u .size) (u .begins) in
-    let a₂ = start-alone start d p₂ c₂ (u .size) (u .begins) in
+    let a₁ = start-alone start none p₁ c₁ (u .size) (begun u) in
+    let a₂ = start-alone start d p₂ c₂ (u .size) (begun u) in
     record {
       undamaged = rw (none-carried (configIn start)) (ap (λ (es : List Placed). unitsOf (shownIn es)) (a₁ .0));
       damaged = rw (none-carried (configIn start)) (ap (λ (es : List Placed). unitsOf (shownIn es)) (a₂ .0));
@@ -142,4 +145,4 @@ capture-loss start [] d p₁ c₁ p₂ c₂ u hp hc =
     }
 capture-loss start (f ∷ fs) d p₁ c₁ p₂ c₂ u hp hc =
     exact start (f ∷ fs) d p₁ c₁ p₂ c₂ u hp hc
-    (suffices start f fs p₁ c₁ (u .size) (u .begins) (u .whole .0) (u .written) (u .none-refused))
+    (suffices start f fs p₁ c₁ (u .size) (begun u) (u .whole .0) (u .written) (u .none-refused))

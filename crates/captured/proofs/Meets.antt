@@ -65,8 +65,9 @@ undamaged-met start fs p c xs size s h a =
     let r = shows-account cfg (s .accepted) fs w none p c at xs (a .reads) in
     let q = e .0 ∙ ap (λ (y : List (Arrival (ℕ × ℕ))). map strip (account cfg y)) (k .0) ∙ sym (r .0) in
     record {
+      first = s .has-c .first;
       size = size;
-      begins = s;
+      accepted = s .accepted;
       whole = a .whole-frames;
       written = z;
       none-refused = e .1 ∙ k .1;

@@ -49,7 +49,7 @@ refusalAt stream l s (slot d) = cond (leb 120 s) 20 (cond (wrongLength (getD (l 
 refusalAt stream l s lost-slot = cond (leb 120 s) 20 0
 refusalAt stream l s next = 0
 
--- the layout, and the slot that is due, after a call
+-- the layout, and the slot that is due, counted from 0, after a call
 abbrev pub layoutAfter : ℕ → Layout → Call → Layout
 layoutAfter stream l (frame b) = decodeOf b stream .layout
 layoutAfter stream l lost-frame = l
@@ -72,7 +72,8 @@ framesAfter n (slot d) = n
 framesAfter n lost-slot = n
 framesAfter n next = n
 
--- what arrives by a call: an own live slot, or its loss; "lost frame (its 120 slots all lost, together read as one lost own slot)"
+-- what arrives by a call, at most one: an own live slot, labelled by its frame and slot from 0, or its loss; "lost frame (its 120 slots
+-- all lost, together read as one lost own slot)"
 abbrev pub arrivalBy : Layout → ℕ → ℕ → Call → List (Arrival (ℕ × ℕ))
 arrivalBy l s n (frame b) = []
 arrivalBy l s n lost-frame = lost ∷ []
@@ -111,6 +112,7 @@ shortAt stream s (slot d) = cond (leb 120 s) 20 22
 shortAt stream s lost-slot = cond (leb 120 s) 20 22
 shortAt stream s next = 0
 
+-- the number of the first refusal then: at most one
 unfoldable pub shortRefusalsBy : ℕ → ℕ → List Call → List ℕ
 shortRefusalsBy stream s [] = []
 shortRefusalsBy stream s (k ∷ ks) =

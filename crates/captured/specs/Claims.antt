@@ -124,34 +124,36 @@ CaptureRefusedC =
     (p c b : List ℕ) → HasC b → (startOf (configIn b) .refusal ≡ 0 → ⊥)
     → Unstarted (meaningOf p c b) (startOf (configIn b) .refusal ∷ [])
 
--- 3. Loss. Two captures of the same frames behind the same C, one undamaged, the other with any S replaced by L and any frame by X.
+-- 3. Loss. Two captures of the same whole frames behind the same C, one undamaged, the other with any S replaced by L and any F with its
+-- 120 slots by X. Captures of whole frames are meant, as demand 3 asks: one that breaks off inside a frame is not.
 
 -- the units that a capture gives, in order; and those that the own live slots of the frames carry, each with its TLV packets
 abbrev pub unitsGiven : List ℕ → List ℕ → List ℕ → List Content
 unitsGiven p c b = unitsOf (shownIn (meaningOf p c b .events))
 
 abbrev pub carriedIn : List ℕ → List Frame → List (Labelled (List (ℕ × ℕ)))
-carriedIn start fs = carriedUnits (configIn start) (slotsOf (configIn start) fs)
+carriedIn startBytes fs = carriedUnits (configIn startBytes) (slotsOf (configIn startBytes) fs)
 
--- what is assumed of the undamaged one, as demand 3 has it: `start` is an accepted C; the frames have 120 slots and can be written;
+-- what is assumed of the undamaged one, as demand 3 has it: `startBytes` is an accepted C; the frames have 120 slots and can be written;
 -- no command is refused, there is no note, and no watched packet_id has more than 4,294,967,295 packets
-pub record UndamagedCapture (start : List ℕ) (fs : List Frame) (p c : List ℕ) : Type 0 where
-  pub size : length start ≡ 42
-  pub begins : Begins start
+pub record UndamagedCapture (startBytes : List ℕ) (fs : List Frame) (p c : List ℕ) : Type 0 where
+  pub first : letterOf (getD startBytes 0 0) ≡ Start
+  pub size : length startBytes ≡ 42
+  pub accepted : startOf (configIn startBytes) .refusal ≡ 0
   pub whole : Whole fs
   pub written : CanWriteFrames fs
-  pub none-refused : meaningOf p c (captureBytes start none fs) .refusal ≡ []
-  pub no-note : NoNote (shownIn (meaningOf p c (captureBytes start none fs) .events))
-  pub few : Few (configIn start) (slotsOf (configIn start) fs)
+  pub none-refused : meaningOf p c (captureBytes startBytes none fs) .refusal ≡ []
+  pub no-note : NoNote (shownIn (meaningOf p c (captureBytes startBytes none fs) .events))
+  pub few : Few (configIn startBytes) (slotsOf (configIn startBytes) fs)
 
 -- the units of the undamaged one are those that its slots carry; the damaged one gives them, in order and content, less exactly those
 -- with a byte of a TLV packet that carries them, headers included, in a lost slot; and it is not refused
-pub record ExactLoss (start : List ℕ) (fs : List Frame) (d : Damage) (p₁ c₁ p₂ c₂ : List ℕ) : Type 0 where
-  pub undamaged : unitsGiven p₁ c₁ (captureBytes start none fs) ≡ contents (carriedIn start fs)
-  pub damaged : unitsGiven p₂ c₂ (captureBytes start d fs) ≡ contents (intactUnits (kept d) (carriedIn start fs))
-  pub none-refused : meaningOf p₂ c₂ (captureBytes start d fs) .refusal ≡ []
+pub record ExactLoss (startBytes : List ℕ) (fs : List Frame) (d : Damage) (p₁ c₁ p₂ c₂ : List ℕ) : Type 0 where
+  pub undamaged : unitsGiven p₁ c₁ (captureBytes startBytes none fs) ≡ contents (carriedIn startBytes fs)
+  pub damaged : unitsGiven p₂ c₂ (captureBytes startBytes d fs) ≡ contents (intactUnits (kept d) (carriedIn startBytes fs))
+  pub none-refused : meaningOf p₂ c₂ (captureBytes startBytes d fs) .refusal ≡ []
 
 abbrev pub CaptureLoss : Type 0
 CaptureLoss =
-    (start : List ℕ) (fs : List Frame) (d : Damage) (p₁ c₁ p₂ c₂ : List ℕ) → UndamagedCapture start fs p₁ c₁
-    → length p₁ ≡ length p₂ → length c₁ ≡ length c₂ → ExactLoss start fs d p₁ c₁ p₂ c₂
+    (startBytes : List ℕ) (fs : List Frame) (d : Damage) (p₁ c₁ p₂ c₂ : List ℕ) → UndamagedCapture startBytes fs p₁ c₁
+    → length p₁ ≡ length p₂ → length c₁ ≡ length c₂ → ExactLoss startBytes fs d p₁ c₁ p₂ c₂

@@ -1,4 +1,5 @@
--- Captures that meet what the claims assume: the broadcast of three frames, written behind its C; and a C that start refuses.
+-- Captures that meet what the claims assume: the broadcast of three frames, written behind its C; and a C that start refuses. Frames and
+-- slots are counted from 0 in a broadcast and its damage, and from 1 in a capture's lines: slot 5 of frame 0 is `1 6` there.
 use Prim.Native.Nat.{ℕ}
 use mathlib.Core.Path.{_≡_}
 use mathlib.Core.List.{List, [], _∷_, _++_}
@@ -36,8 +37,8 @@ leastCollecting = replicate 200 0
 abbrev pub UnitsLeft : Damage → List Content → Type 0
 UnitsLeft d us = unitsGiven leastPacket leastCollecting (captureBytes startBytes d frames) ≡ us
 
--- what the capture with frame 1 lost brings, with the frames and slots of its lines, which count from 1, while the damage counts from
--- 0: the lost frame's note has frame 2 and slot 0; the unit of packet_id 18 ends in the first slot behind it, as slot 1 of frame 3
+-- what the capture with frame 1 lost brings, by frames and slots as its lines have them: X is the second frame, and "a lost frame's note
+-- has slot 0"; that packets of packet_id 17 are missing is noted where its next one ends, in the sixth slot of the third frame
 abbrev pub frameLostPlaces : List Placed
 frameLostPlaces =
     record { frame = 1; slot = 6; shown = unit (whole 9); len = 2 }

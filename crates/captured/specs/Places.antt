@@ -32,7 +32,9 @@ slotNumber s (slot d) = s + 1
 slotNumber s lost-slot = s + 1
 slotNumber s next = 0
 
--- call by call up to the first that is refused, n frames having begun; counts have 64 bits
+-- call by call up to the first that is refused: g is the lane, which is the joining state, of each watched packet_id; tl the state of
+-- the slots, which is what they leave held; l the frame's layout; s the slot that is due, from 0, and 120 where a frame is; n how many
+-- frames have begun. Counts have 64 bits
 unfoldable pub placedBy : Config → (ℕ → Lane (List (ℕ × ℕ))) → Slot-state (ℕ × ℕ) → Layout → ℕ → ℕ → List Call → List Placed
 placedBy cfg g tl l s n [] = []
 placedBy cfg g tl l s n (k ∷ ks) =

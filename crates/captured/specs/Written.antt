@@ -47,4 +47,4 @@ CanWriteFrames fs = CanWriteAll (framesCalls none 0 fs)
 
 -- the capture of frames, whole or damaged, behind the bytes of C
 unfoldable pub captureBytes : List ℕ → Damage → List Frame → List ℕ
-captureBytes start d fs = start ++ callsBytes (framesCalls d 0 fs)
+captureBytes startBytes d fs = startBytes ++ callsBytes (framesCalls d 0 fs)
