@@ -65,7 +65,8 @@ use Rattle.captured.specs.Calls.{
 use Rattle.captured.specs.Places.{placedAt, slotNumber, placedBy}
 use Rattle.captured.specs.Claims.{configIn, Begins, Suffice, Accounts, CaptureAccounts}
 use Rattle.captured.proofs.Drains.{session, Settled, settle, idle-settled}
-use Rattle.captured.proofs.Steps.{commandCall, did-call, tallyAfter, slot-counted, frame-counted, call-queue, refusal-is, Steps, call-step}
+use Rattle.captured.proofs.Steps.{commandCall, did-call, tallyAfter, slot-counted, frame-counted, call-queue, refusal-is}
+use Rattle.captured.proofs.Steps.{Steps, call-step}
 use Rattle.receiver.proofs.Lengths.{GiveLies}
 
 shown-append : (a b : List Placed) → shownIn (a ++ b) ≡ shownIn a ++ shownIn b

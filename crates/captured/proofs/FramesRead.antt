@@ -83,7 +83,8 @@ slot-after stream l s n false d = (refl, refl, refl)
 module _ (stream : ℕ) where
   -- the slots of a frame
   slots-carry : (gone : ℕ → Bool) (i : ℕ) (l : Layout) (s : ℕ) (ds : List (List ℕ)) (ts : List Todo) → s + length ds ≡ 120 → SlotsFit l s ds
-      → (arrivalsBy stream l s (suc i) (callsIn (slotsTodo gone s ds ++ ts)) ≡ slotsArrive l gone i s ds ++ arrivalsBy stream l 120 (suc i) (callsIn ts))
+      → (arrivalsBy stream l s (suc i) (callsIn (slotsTodo gone s ds ++ ts))
+      ≡ slotsArrive l gone i s ds ++ arrivalsBy stream l 120 (suc i) (callsIn ts))
       × (refusalsBy stream l s (callsIn (slotsTodo gone s ds ++ ts)) ≡ refusalsBy stream l 120 (callsIn ts))
   unfolding callsIn slotsTodo slotsArrive
   slots-carry gone i l s [] ts n w = let e : s ≡ 120 = omega (arith, n) in (rw e, rw e)
@@ -143,7 +144,8 @@ module _ (stream : ℕ) where
   frame-carries d i f fs l false e n w again =
       let ts = reading d (suc i) fs in
       let l' = layoutIn stream f in
-      let c = call-on stream l 120 i (frame (f .block)) (callsIn (slotsTodo (d .slots i) 0 (f .slots) ++ ts)) (frame-passes l (f .block) e) in
+      let ss = callsIn (slotsTodo (d .slots i) 0 (f .slots) ++ ts) in
+      let c = call-on stream l 120 i (frame (f .block)) ss (frame-passes l (f .block) e) in
       let s = slots-carry (d .slots i) i l' 0 (f .slots) ts (omega (arith, n)) w in
       let r = again l' in
       (c .0 ∙ s .0 ∙ ap (λ (x : List (Arrival (ℕ × ℕ))). slotsArrive l' (d .slots i) i 0 (f .slots) ++ x) (r .0), c .1 ∙ s .1 ∙ r .1)

@@ -88,9 +88,9 @@ abbrev pub MemoriesAlike : Type 0
 MemoriesAlike =
     (p₁ c₁ p₂ c₂ b : List ℕ) → Begins b → Suffice (configIn b) p₁ c₁ → Suffice (configIn b) p₂ c₂ → captureOf p₁ c₁ b ≡ captureOf p₂ c₂ b
 
--- the same of the capture's meaning: its notes and units are, in order and with all that they carry, the account of what arrives by its commands; each has
--- the frame and slot of its command, and a unit's line the length of its bytes; the capture is refused where the commands say, and
--- its frames are those that have begun
+-- the same of the capture's meaning: its notes and units are, in order and with all that they carry, the account of what arrives by its
+-- commands; each has the frame and slot of its command, and a unit's line the length of its bytes; the capture is refused where the
+-- commands say, and its frames are those that have begun
 pub record Accounts (p c b : List ℕ) : Type 0 where
   pub accounted : shownIn (meaningOf p c b .events) ≡ map strip (account (configIn b) (arrivalsIn b))
   pub placed : meaningOf p c b .events ≡ placedIn b
