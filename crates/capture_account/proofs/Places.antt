@@ -25,10 +25,10 @@ use Rattle.receiver.specs.Slot.{wrongLength}
 use Rattle.broadcast.specs.Account.{readOf, events, lanesAfter}
 use Rattle.broadcast.specs.Frames.{slotsTodo, reading}
 use Rattle.broadcast.specs.Broadcast.{config, block, opening, closing, slotsOver, frames, frameLost}
-use Rattle.captured.specs.Calls.{refusalAt}
-use Rattle.captured.specs.Places.{placedBy}
-use Rattle.captured.specs.Written.{callsIn, framesCalls}
-use Rattle.captured.specs.Examples.{frameLostPlaces}
+use Rattle.capture_account.specs.Calls.{refusalAt}
+use Rattle.capture_account.specs.Places.{placedBy}
+use Rattle.capture_account.specs.Written.{callsIn, framesCalls}
+use Rattle.capture_account.specs.Examples.{frameLostPlaces}
 
 pub frame-lost-placed : placedBy config (λ k. fresh) searching blankLayout 120 0 (framesCalls frameLost 0 frames) ≡ frameLostPlaces
 unfolding be tab allBelow countBelow lastBelow dataBytes within used unused modeGood slotsOf modesGood modeFrom modeOf slotLength

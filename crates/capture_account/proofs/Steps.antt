@@ -34,8 +34,8 @@ use Rattle.broadcast.specs.Machines.{At}
 use Rattle.broadcast.proofs.Items.{Item, lost-frame-item}
 use Rattle.broadcast.proofs.SlotCalls.{slot-step}
 use Rattle.broadcast.proofs.Reading.{framed, frame-did, frame-at}
-use Rattle.captured.specs.Calls.{refusalAt, layoutAfter, slotAfter, framesAfter, arrivalBy}
-use Rattle.captured.specs.Places.{slotNumber}
+use Rattle.capture_account.specs.Calls.{refusalAt, layoutAfter, slotAfter, framesAfter, arrivalBy}
+use Rattle.capture_account.specs.Places.{slotNumber}
 
 -- the call of a command that makes one
 abbrev pub commandCall : Letter → List ℕ → Call

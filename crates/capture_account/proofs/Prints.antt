@@ -1,10 +1,10 @@
 -- What a capture prints, by the commands behind its C alone.
 use mathlib.Core.Path.{sym, _∙_}
-use Rattle.captured.specs.Events.{meaningText}
-use Rattle.captured.specs.Claims.{CapturePrints, MemoriesAlike}
-use Rattle.captured.proofs.Texts.{capture-text}
-use Rattle.captured.proofs.Totals.{capture-totals}
-use Rattle.captured.proofs.Accounts.{capture-accounts}
+use Rattle.capture_account.specs.Events.{meaningText}
+use Rattle.capture_account.specs.Claims.{CapturePrints, MemoriesAlike}
+use Rattle.capture_account.proofs.Texts.{capture-text}
+use Rattle.capture_account.proofs.Totals.{capture-totals}
+use Rattle.capture_account.proofs.Accounts.{capture-accounts}
 
 pub capture-prints : CapturePrints
 unfolding meaningText

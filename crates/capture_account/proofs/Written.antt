@@ -13,9 +13,9 @@ use Rattle.capture.specs.declared.command.Letter.the-variants.{Frame, LostFrame
 use Rattle.capture.specs.Command.{letterOf, sizeOf, slotSize, whole, size-by, size-kept, size-none, slot-size-known}
 use Rattle.capture.proofs.Texts.{size-whole}
 use Rattle.broadcast.specs.Calls.{Call, frame, lost-frame, slot, lost-slot, next}
-use Rattle.captured.specs.Calls.{callThen, commandCallsBy}
-use Rattle.captured.specs.Written.{commandBytes, callsBytes, CanWrite, CanWriteAll}
-use Rattle.captured.proofs.Accounts.{calls-none, calls-some}
+use Rattle.capture_account.specs.Calls.{callThen, commandCallsBy}
+use Rattle.capture_account.specs.Written.{commandBytes, callsBytes, CanWrite, CanWriteAll}
+use Rattle.capture_account.proofs.Accounts.{calls-none, calls-some}
 
 -- the bytes of a command, and more behind them
 module _ (x rest : List ℕ) (w : Letter) (l : letterOf (getD x 0 0) ≡ w) (s : sizeOf x ≡ length x) (h : 1 ≤ length x) where

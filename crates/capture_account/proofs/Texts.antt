@@ -37,7 +37,7 @@ use Rattle.capture.specs.Capture.{
   captureOf,
 }
 use Rattle.capture.specs.Drains.{still, drain-idle}
-use Rattle.captured.specs.Events.{
+use Rattle.capture_account.specs.Events.{
   Placed,
   Meaning,
   Waited,
@@ -55,7 +55,7 @@ use Rattle.captured.specs.Events.{
   refusedLines,
   meaningText,
 }
-use Rattle.captured.specs.Claims.{TextClaim}
+use Rattle.capture_account.specs.Claims.{TextClaim}
 
 -- what next gave, as text and as events
 record Same (d : Drained) (g : Waited) : Type 0 where

@@ -18,10 +18,10 @@ use Rattle.broadcast.specs.Drains.{strip}
 use Rattle.broadcast.specs.Carried.{carriedUnits, intactUnits, Few, contents}
 use Rattle.broadcast.specs.Frames.{Frame, Whole, Damage, none}
 use Rattle.broadcast.specs.Demand3.{NoNote, unitsOf, slotsOf, kept}
-use Rattle.captured.specs.Events.{Placed, Meaning, meaningOf, linesOf, refusedLines, meaningText, shownIn, noteCount}
-use Rattle.captured.specs.Calls.{commandCalls, arrivalsBy, refusalsBy, framesBy, shortRefusalsBy, shortFramesBy}
-use Rattle.captured.specs.Places.{placedBy}
-use Rattle.captured.specs.Written.{CanWriteFrames, captureBytes}
+use Rattle.capture_account.specs.Events.{Placed, Meaning, meaningOf, linesOf, refusedLines, meaningText, shownIn, noteCount}
+use Rattle.capture_account.specs.Calls.{commandCalls, arrivalsBy, refusalsBy, framesBy, shortRefusalsBy, shortFramesBy}
+use Rattle.capture_account.specs.Places.{placedBy}
+use Rattle.capture_account.specs.Written.{CanWriteFrames, captureBytes}
 
 -- 1. The text. Any bytes b, and memories of any length with anything in them.
 

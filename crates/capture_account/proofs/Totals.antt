@@ -22,7 +22,7 @@ use Rattle.capture.specs.Capture.{Done, Drained, fits, callOf, afterCall, doneO
 use Rattle.capture.specs.Drains.{still}
 use Rattle.broadcast.specs.Drains.{Shown, note, unit}
 use Rattle.broadcast.specs.Demand3.{unitsOf}
-use Rattle.captured.specs.Events.{
+use Rattle.capture_account.specs.Events.{
   Placed,
   Meaning,
   Waited,
@@ -37,7 +37,7 @@ use Rattle.captured.specs.Events.{
   shownIn,
   noteCount,
 }
-use Rattle.captured.specs.Claims.{TotalsClaim}
+use Rattle.capture_account.specs.Claims.{TotalsClaim}
 
 -- counts that have 64 bits
 record Small (t : Tally) : Type 0 where

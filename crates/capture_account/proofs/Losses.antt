@@ -27,14 +27,14 @@ use Rattle.broadcast.specs.Calls.{Call, frame, slot}
 use Rattle.broadcast.specs.Frames.{Frame, Damage, none, slotsTodo, reading, ownSlots}
 use Rattle.broadcast.specs.Demand3.{NoNote, unitsOf, slotsOf}
 use Rattle.broadcast.proofs.Demand3.{start-accepted, start-at, shows-account, made, demand-3}
-use Rattle.captured.specs.Events.{Placed, Meaning, Waited, meaningBy, meaningOf, shownIn}
-use Rattle.captured.specs.Calls.{shortAt, shortRefusalsBy}
-use Rattle.captured.specs.Written.{callsBytes, callsIn, framesCalls, CanWriteFrames, captureBytes}
-use Rattle.captured.specs.Claims.{configIn, Begins, Suffice, UndamagedCapture, ExactLoss, CaptureLoss}
-use Rattle.captured.proofs.Drains.{session}
-use Rattle.captured.proofs.Accounts.{onward-stops, idle-waited, mean-step, start-means, started-session}
-use Rattle.captured.proofs.FramesRead.{frames-fit, frames-carry, config-same, calls-same, begins-same, accounts-same}
-use Rattle.captured.proofs.Short.{short-shows, enough}
+use Rattle.capture_account.specs.Events.{Placed, Meaning, Waited, meaningBy, meaningOf, shownIn}
+use Rattle.capture_account.specs.Calls.{shortAt, shortRefusalsBy}
+use Rattle.capture_account.specs.Written.{callsBytes, callsIn, framesCalls, CanWriteFrames, captureBytes}
+use Rattle.capture_account.specs.Claims.{configIn, Begins, Suffice, UndamagedCapture, ExactLoss, CaptureLoss}
+use Rattle.capture_account.proofs.Drains.{session}
+use Rattle.capture_account.proofs.Accounts.{onward-stops, idle-waited, mean-step, start-means, started-session}
+use Rattle.capture_account.proofs.FramesRead.{frames-fit, frames-carry, config-same, calls-same, begins-same, accounts-same}
+use Rattle.capture_account.proofs.Short.{short-shows, enough}
 
 begun : {start : List ℕ} {fs : List Frame} {p c : List ℕ} → UndamagedCapture start fs p c → Begins start
 begun u = record { has-c = record { first = u .first; long = omega (arith, u .size) }; accepted = u .accepted }

@@ -27,17 +27,17 @@ use Rattle.broadcast.proofs.SlotCalls.{SlotsFit}
 use Rattle.broadcast.proofs.Reading.{FramesFit, frames-fit}
 use Rattle.broadcast.proofs.Demand3.{start-at, shows-account, demand-3}
 use Rattle.broadcast.proofs.Broadcast.{broadcast-claims}
-use Rattle.captured.specs.Events.{meaningOf}
-use Rattle.captured.specs.Calls.{commandCallsBy, commandCalls, shortAt, shortRefusalsBy, shortFramesBy}
-use Rattle.captured.specs.Places.{placedBy}
-use Rattle.captured.specs.Written.{CanWriteAll, callsIn, framesCalls, captureBytes}
-use Rattle.captured.specs.Examples.{startBytes, lossAlone, leastPacket, leastCollecting, UnitsLeft, Examples}
-use Rattle.captured.specs.Claims.{configIn, Begins, Suffice, UndamagedCapture}
-use Rattle.captured.proofs.Accounts.{capture-accounts}
-use Rattle.captured.proofs.FramesRead.{config-same, calls-same, begins-same, accounts-same, frames-carry}
-use Rattle.captured.proofs.Places.{frame-lost-placed}
-use Rattle.captured.proofs.Short.{capture-short}
-use Rattle.captured.proofs.Losses.{capture-loss}
+use Rattle.capture_account.specs.Events.{meaningOf}
+use Rattle.capture_account.specs.Calls.{commandCallsBy, commandCalls, shortAt, shortRefusalsBy, shortFramesBy}
+use Rattle.capture_account.specs.Places.{placedBy}
+use Rattle.capture_account.specs.Written.{CanWriteAll, callsIn, framesCalls, captureBytes}
+use Rattle.capture_account.specs.Examples.{startBytes, lossAlone, leastPacket, leastCollecting, UnitsLeft, Examples}
+use Rattle.capture_account.specs.Claims.{configIn, Begins, Suffice, UndamagedCapture}
+use Rattle.capture_account.proofs.Accounts.{capture-accounts}
+use Rattle.capture_account.proofs.FramesRead.{config-same, calls-same, begins-same, accounts-same, frames-carry}
+use Rattle.capture_account.proofs.Places.{frame-lost-placed}
+use Rattle.capture_account.proofs.Short.{capture-short}
+use Rattle.capture_account.proofs.Losses.{capture-loss}
 
 slots-sized : (l : Layout) (i s : ℕ) (ds : List (List ℕ)) (ts : List Todo) → SlotsFit l s ds → CanWriteAll (callsIn ts)
     → CanWriteAll (callsIn (slotsTodo (none .slots i) s ds ++ ts))

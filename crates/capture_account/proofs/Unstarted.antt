@@ -15,10 +15,10 @@ use Rattle.capture.specs.Command.{letterOf, sizeOf, whole, size-by, configOf}
 use Rattle.capture.specs.Session.{freshSession}
 use Rattle.capture.specs.Capture.{fits, callOf}
 use Rattle.capture.proofs.Texts.{whole-size, size-whole}
-use Rattle.captured.specs.Events.{meaningBy, meaningOf}
-use Rattle.captured.specs.Claims.{configIn, HasC, Unstarted, CaptureWithoutC, CaptureRefusedC}
-use Rattle.captured.proofs.Accounts.{front-letter, done-unfit, done-refused, onward}
-use Rattle.captured.proofs.Accounts.{fresh-before, fresh-waited, fresh-drained, fresh-means}
+use Rattle.capture_account.specs.Events.{meaningBy, meaningOf}
+use Rattle.capture_account.specs.Claims.{configIn, HasC, Unstarted, CaptureWithoutC, CaptureRefusedC}
+use Rattle.capture_account.proofs.Accounts.{front-letter, done-unfit, done-refused, onward}
+use Rattle.capture_account.proofs.Accounts.{fresh-before, fresh-waited, fresh-drained, fresh-means}
 
 -- the first command: none is whole, it is not C, or start refuses it
 module _ (f : ℕ) (p c b : List ℕ) where

@@ -21,8 +21,8 @@ use Rattle.capture.specs.Waits.{waits, next-falls, next-owes}
 use Rattle.capture.specs.Capture.{Drained, eventBy, tallied, closed, drainedBy, drainedOf}
 use Rattle.capture.specs.Drains.{drain-idle}
 use Rattle.broadcast.specs.Drains.{Shown, note, shown, Drains, stops, notes, units}
-use Rattle.captured.specs.Events.{Placed, Waited, placedAs, waitedThen, waitedBy, waitedOf}
-use Rattle.captured.specs.Places.{placedAt}
+use Rattle.capture_account.specs.Events.{Placed, Waited, placedAs, waitedThen, waitedBy, waitedOf}
+use Rattle.capture_account.specs.Places.{placedAt}
 use Rattle.receiver.proofs.Lengths.{GiveLies, next-lies}
 
 -- a session that reads

@@ -35,7 +35,7 @@ use Rattle.broadcast.specs.Calls.{Machine, Call, Did, did, numbered}
 use Rattle.broadcast.specs.Machines.{At}
 use Rattle.broadcast.proofs.Demand3.{start-accepted, start-at}
 use Rattle.broadcast.proofs.SlotCalls.{shown-on}
-use Rattle.captured.specs.Events.{
+use Rattle.capture_account.specs.Events.{
   Placed,
   Meaning,
   Waited,
@@ -49,7 +49,7 @@ use Rattle.captured.specs.Events.{
   meaningOf,
   shownIn,
 }
-use Rattle.captured.specs.Calls.{
+use Rattle.capture_account.specs.Calls.{
   callThen,
   commandCallsBy,
   commandCalls,
@@ -62,11 +62,11 @@ use Rattle.captured.specs.Calls.{
   refusalsBy,
   framesBy,
 }
-use Rattle.captured.specs.Places.{placedAt, slotNumber, placedBy}
-use Rattle.captured.specs.Claims.{configIn, Begins, Suffice, Accounts, CaptureAccounts}
-use Rattle.captured.proofs.Drains.{session, Settled, settle, idle-settled}
-use Rattle.captured.proofs.Steps.{commandCall, did-call, tallyAfter, slot-counted, frame-counted, call-queue, refusal-is}
-use Rattle.captured.proofs.Steps.{Steps, call-step}
+use Rattle.capture_account.specs.Places.{placedAt, slotNumber, placedBy}
+use Rattle.capture_account.specs.Claims.{configIn, Begins, Suffice, Accounts, CaptureAccounts}
+use Rattle.capture_account.proofs.Drains.{session, Settled, settle, idle-settled}
+use Rattle.capture_account.proofs.Steps.{commandCall, did-call, tallyAfter, slot-counted, frame-counted, call-queue, refusal-is}
+use Rattle.capture_account.proofs.Steps.{Steps, call-step}
 use Rattle.receiver.proofs.Lengths.{GiveLies}
 
 shown-append : (a b : List Placed) → shownIn (a ++ b) ≡ shownIn a ++ shownIn b

@@ -11,8 +11,8 @@ use Rattle.reassembly.specs.Run.{Lane}
 use Rattle.broadcast.specs.Account.{events, lanesAfter}
 use Rattle.broadcast.specs.Drains.{Shown, note, unit, strip}
 use Rattle.broadcast.specs.Calls.{Call, frame, lost-frame, slot, lost-slot, next}
-use Rattle.captured.specs.Events.{Placed}
-use Rattle.captured.specs.Calls.{refusalAt, layoutAfter, slotAfter, framesAfter, arrivalBy}
+use Rattle.capture_account.specs.Events.{Placed}
+use Rattle.capture_account.specs.Calls.{refusalAt, layoutAfter, slotAfter, framesAfter, arrivalBy}
 
 -- the length of a unit's line is that of its bytes
 abbrev pub lengthOf : Shown → ℕ

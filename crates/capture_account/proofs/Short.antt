@@ -29,16 +29,17 @@ use Rattle.capture.specs.Capture.{fits, callOf, closed, tallied, drainedBy, dra
 use Rattle.capture.specs.Drains.{drain-idle}
 use Rattle.capture.proofs.Texts.{whole-size}
 use Rattle.broadcast.proofs.Demand3.{start-accepted}
-use Rattle.captured.specs.Events.{Meaning, Waited, waitedBy, waitedOf, meaningBy, meaningOf}
+use Rattle.capture_account.specs.Events.{Meaning, Waited, waitedBy, waitedOf, meaningBy, meaningOf}
 use Rattle.broadcast.specs.Calls.{Call, frame, lost-frame, slot, lost-slot}
-use Rattle.captured.specs.Calls.{callThen, commandCallsBy, commandCalls, slotAfter}
-use Rattle.captured.specs.Calls.{shortAt, shortRefusalsBy, shortFramesBy}
-use Rattle.captured.specs.Claims.{configIn, Begins, Suffice, NoneShown, CaptureShort}
-use Rattle.captured.proofs.Drains.{session}
-use Rattle.captured.proofs.Steps.{commandCall, tallyAfter}
-use Rattle.captured.proofs.Accounts.{front-letter, done-unfit, done-refused, done-accepted, after-reads, behind-fits, behind-unfit}
-use Rattle.captured.proofs.Accounts.{calls-none, calls-some, onward, onward-stops, idle-waited, mean-step, start-means}
-use Rattle.captured.proofs.Accounts.{started-session}
+use Rattle.capture_account.specs.Calls.{callThen, commandCallsBy, commandCalls, slotAfter}
+use Rattle.capture_account.specs.Calls.{shortAt, shortRefusalsBy, shortFramesBy}
+use Rattle.capture_account.specs.Claims.{configIn, Begins, Suffice, NoneShown, CaptureShort}
+use Rattle.capture_account.proofs.Drains.{session}
+use Rattle.capture_account.proofs.Steps.{commandCall, tallyAfter}
+use Rattle.capture_account.proofs.Accounts.{front-letter, done-unfit, done-refused, done-accepted, after-reads}
+use Rattle.capture_account.proofs.Accounts.{behind-fits, behind-unfit}
+use Rattle.capture_account.proofs.Accounts.{calls-none, calls-some, onward, onward-stops, idle-waited, mean-step, start-means}
+use Rattle.capture_account.proofs.Accounts.{started-session}
 
 -- no event, these refusals, and so many frames
 abbrev Says : Meaning → List ℕ → ℕ → Type 0

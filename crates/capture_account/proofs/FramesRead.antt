@@ -23,12 +23,13 @@ use Rattle.broadcast.specs.Frames.{Frame, Whole, Damage, none, slotCall, slotAt
 use Rattle.broadcast.specs.Frames.{slotsTodo, frameTodo, reading, arriving, slotsArrive, layoutIn, frameArrives, arrivals}
 use Rattle.broadcast.proofs.SlotCalls.{SlotsFit}
 use Rattle.broadcast.proofs.Reading.{FramesFit}
-use Rattle.captured.specs.Events.{meaningOf, shownIn}
-use Rattle.captured.specs.Calls.{commandCalls, refusalAt, layoutAfter, slotAfter, framesAfter, arrivalBy, arrivalsBy, refusalsBy}
-use Rattle.captured.specs.Written.{callsBytes, CanWriteAll, callsIn, framesCalls, CanWriteFrames, captureBytes}
-use Rattle.captured.specs.Claims.{configIn, Begins, Suffice}
-use Rattle.captured.proofs.Accounts.{capture-accounts}
-use Rattle.captured.proofs.Written.{calls-parsed}
+use Rattle.capture_account.specs.Events.{meaningOf, shownIn}
+use Rattle.capture_account.specs.Calls.{commandCalls, refusalAt, layoutAfter, slotAfter, framesAfter}
+use Rattle.capture_account.specs.Calls.{arrivalBy, arrivalsBy, refusalsBy}
+use Rattle.capture_account.specs.Written.{callsBytes, CanWriteAll, callsIn, framesCalls, CanWriteFrames, captureBytes}
+use Rattle.capture_account.specs.Claims.{configIn, Begins, Suffice}
+use Rattle.capture_account.proofs.Accounts.{capture-accounts}
+use Rattle.capture_account.proofs.Written.{calls-parsed}
 
 -- an accepted call, and a refused one
 module _ (stream : ℕ) (l : Layout) (s n : ℕ) (k : Call) (ks : List Call) where

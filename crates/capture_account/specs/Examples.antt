@@ -10,9 +10,9 @@ use Rattle.broadcast.specs.Drains.{note, unit}
 use Rattle.broadcast.specs.Example.{joined}
 use Rattle.broadcast.specs.Frames.{Damage}
 use Rattle.broadcast.specs.Broadcast.{config, frames, whole, slotLost, frameLost}
-use Rattle.captured.specs.Events.{Placed, meaningOf}
-use Rattle.captured.specs.Written.{captureBytes}
-use Rattle.captured.specs.Claims.{configIn, HasC, Begins, Suffice, unitsGiven, UndamagedCapture}
+use Rattle.capture_account.specs.Events.{Placed, meaningOf}
+use Rattle.capture_account.specs.Written.{captureBytes}
+use Rattle.capture_account.specs.Claims.{configIn, HasC, Begins, Suffice, unitsGiven, UndamagedCapture}
 
 -- C: stream 0x0102, CID 2, packet_ids 17 and 18, R = 100
 abbrev pub startBytes : List ℕ
