@@ -37,7 +37,8 @@ pub record Counted (m : Meaning) : Type 0 where
 abbrev pub TotalsClaim : Type 0
 TotalsClaim = (p c b : List ℕ) → Counted (meaningOf p c b)
 
--- 2. The account. Any bytes b behind an accepted C.
+-- 2. The account. Any bytes b and any memories, in four cases: an accepted C comes first, and the memories suffice (CapturePrints,
+-- CaptureAccounts) or do not (CaptureShort); a C comes first that start refuses (CaptureRefusedC); or none does (CaptureWithoutC).
 
 -- what C says
 abbrev pub configIn : List ℕ → Config
@@ -115,7 +116,7 @@ pub record Unstarted (m : Meaning) (rs : List ℕ) : Type 0 where
   pub refusal : m .refusal ≡ rs
   pub frames : m .tally .frames ≡ 0
 
--- no whole C comes first; or one that start refuses
+-- no whole C comes first; or one comes that start refuses
 abbrev pub CaptureWithoutC : Type 0
 CaptureWithoutC = (p c b : List ℕ) → (HasC b → ⊥) → Unstarted (meaningOf p c b) []
 

@@ -3,7 +3,7 @@
 use Prim.Native.Nat.{ℕ}
 use mathlib.Core.Path.{_≡_}
 use mathlib.Core.List.{List, [], _∷_, _++_}
-use lib.ListN.{length, replicate}
+use lib.ListN.{replicate}
 use Rattle.reassembly.specs.Run.{Content}
 use Rattle.receiver.specs.Start.{startOf}
 use Rattle.broadcast.specs.Drains.{note, unit}
@@ -43,7 +43,7 @@ abbrev pub frameLostPlaces : List Placed
 frameLostPlaces =
     record { frame = 1; slot = 6; shown = unit (whole 9); len = 2 }
     ∷ record { frame = 2; slot = 0; shown = note 40 0; len = 0 }
-    ∷ record { frame = 3; slot = 1; shown = unit joined; len = length (joined .bytes) }
+    ∷ record { frame = 3; slot = 1; shown = unit joined; len = 4 }
     ∷ record { frame = 3; slot = 6; shown = note 60 17; len = 0 }
     ∷ record { frame = 3; slot = 6; shown = unit (whole 12); len = 2 }
     ∷ []
