@@ -115,7 +115,7 @@ unfolding account
 account-units A c xs q f =
     let es = slots searching (intact xs) in
     let t = events-clean c es (λ k. fresh) q in
-    ap contents (events-units c es (λ k. fresh) ∙ run-sent (List A) (c .limit) (heard c xs) (t .1))
+    ap contents (events-units c es (λ k. fresh) ∙ run-sent (List A) (c .rules) (heard c xs) (t .1))
     ∙ contents-row c xs (λ a. true) (t .0) f
 
 pub account-loss : AccountLoss
@@ -124,8 +124,8 @@ account-loss A keep c xs q f l =
     let es = slots searching (intact xs) in
     let t = events-clean c es (λ k. fresh) q in
     ap contents (events-units c (slots searching (damaged keep xs)) (λ k. fresh)
-    ∙ ap (λ (l : List (List A × Input)). units (run (c .limit) (λ k. fresh) l)) (heard-damaged c xs keep)
-    ∙ sent-loss (List A) (λ ls. all keep ls) (c .limit) (heard c xs) (t .1) (few-heard c xs keep (t .0) f l))
+    ∙ ap (λ (l : List (List A × Input)). units (run (c .rules) (λ k. fresh) l)) (heard-damaged c xs keep)
+    ∙ sent-loss (List A) (λ ls. all keep ls) (c .rules) (heard c xs) (t .1) (few-heard c xs keep (t .0) f l))
     ∙ intact-row c xs keep (t .0) f
 
 pub lost-many : LostMany

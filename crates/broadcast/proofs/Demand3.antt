@@ -11,6 +11,7 @@ use Rattle.tmcc.specs.Layout.{blankLayout}
 use Rattle.tlv.specs.Run.{searching, intact, damaged}
 use Rattle.tlv.specs.Row.{row, packetsBy, rowPackets}
 use Rattle.tlv.specs.Claims.{Filled}
+use Rattle.reassembly.specs.declared.config.Rules.{Rules}
 use Rattle.reassembly.specs.Sent.{sent, sentAfter}
 use Rattle.reassembly.specs.declared.config.Config.{Config}
 use Rattle.reassembly.specs.declared.channel.Channel.{Channel}
@@ -82,13 +83,13 @@ start-accepted cfg e = go (eqb (startRefusal cfg) 0) refl e
     go true q h = (eqb-true _ 0 q, refl)
     go false q h = absurd (eqb-false _ 0 q h)
 
-fresh-lane : (limit : ℕ) (c : List ℕ) (k : ℕ) → k < 16 → LaneIs {A = List (ℕ × ℕ)} (getD (replicate 16 unheard) k unheard) k limit c fresh
+fresh-lane : (rules : Rules) (c : List ℕ) (k : ℕ) → k < 16 → LaneIs {A = List (ℕ × ℕ)} (getD (replicate 16 unheard) k unheard) k rules c fresh
 unfolding unheard
-fresh-lane limit c k h =
-    subst (λ (ch : Channel). LaneIs {A = List (ℕ × ℕ)} ch k limit c fresh) (sym (getD-replicate 16 k unheard unheard h)) (refl, tt)
+fresh-lane rules c k h =
+    subst (λ (ch : Channel). LaneIs {A = List (ℕ × ℕ)} ch k rules c fresh) (sym (getD-replicate 16 k unheard unheard h)) (refl, tt)
 
 -- a fresh receiver stands for the account's beginning
-pub start-at : (cfg : Config) (p c : List ℕ) → startOf cfg .refusal ≡ 0 → packetMemory ≤ length p → cfg .watch .n * cfg .limit ≤ length c
+pub start-at : (cfg : Config) (p c : List ℕ) → startOf cfg .refusal ≡ 0 → packetMemory ≤ length p → cfg .watch .n * cfg .rules .limit ≤ length c
     → At {A = ℕ × ℕ} cfg (started cfg p c) searching (λ k. fresh) blankLayout 120
 unfolding freshState unheard
 start-at cfg p c e hp hc =
@@ -106,7 +107,7 @@ start-at cfg p c e hp hc =
         cursor = refl;
         queue = (refl, refl, refl);
         held = refl;
-        lanes = λ k h. fresh-lane (cfg .limit) c k (omega arith);
+        lanes = λ k h. fresh-lane (cfg .rules) c k (omega arith);
       };
       short = tt;
       frame = refl;
@@ -140,7 +141,7 @@ slot-due st p c d e = go (eqb (slotRefusal st (length p) (length c)) 0) refl e
 -- a slot that is due after the first frame's call
 pub slot-tells : (cfg : Config) (p c b : List ℕ) → startOf cfg .refusal ≡ 0
     → (let m = did (frame b) (started cfg p c) .machine in slotRefusal (m .state) (length (m .packet)) (length (m .collecting)) ≡ 0)
-    → (packetMemory ≤ length p) × (cfg .watch .n * cfg .limit ≤ length c)
+    → (packetMemory ≤ length p) × (cfg .watch .n * cfg .rules .limit ≤ length c)
 unfolding did freshState
 slot-tells cfg p c b e h =
     let st = startOf cfg .state in
@@ -151,7 +152,7 @@ slot-tells cfg p c b e h =
 -- the first slot of an undamaged reading was accepted
 enough : (cfg : Config) (f : Frame) (fs : List Frame) (p c : List ℕ) (xs : List Made) → startOf cfg .refusal ≡ 0 → length (f .slots) ≡ 120
     → Reads cfg (f ∷ fs) none p c xs → refusedOf cfg (f ∷ fs) none p c xs ≡ []
-    → (packetMemory ≤ length p) × (cfg .watch .n * cfg .limit ≤ length c)
+    → (packetMemory ≤ length p) × (cfg .watch .n * cfg .rules .limit ≤ length c)
 unfolding reading slotsTodo
 enough cfg f fs p c xs e n h q = go (f .slots) n h q
   where
@@ -164,7 +165,7 @@ enough cfg f fs p c xs e n h q = go (f .slots) n h q
     go : (ds : List (List ℕ)) → length ds ≡ 120
         → Follows (call (frame (f .block)) ∷ (slotsTodo (λ s. false) 0 ds ++ us)) m xs
         → refusals (call (frame (f .block)) ∷ (slotsTodo (λ s. false) 0 ds ++ us)) m xs ≡ []
-        → (packetMemory ≤ length p) × (cfg .watch .n * cfg .limit ≤ length c)
+        → (packetMemory ≤ length p) × (cfg .watch .n * cfg .rules .limit ≤ length c)
     go [] n h q = absurd (omega arith)
     go (d ∷ ds) n h q =
         let ts = drain ∷ (slotsTodo (λ s. false) 1 ds ++ us) in

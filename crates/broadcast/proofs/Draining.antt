@@ -282,7 +282,7 @@ module _ {A : Type 0} (cfg : Config) (fr : Frame) (p : List ℕ)
       taken-told (λ s d. readOn n s p d) n (read-told n) (t .event) es st c (t .queue) h o (g .0) (g .1)
 
   -- a call of next
-  next-reads : (st : State) (c : List ℕ) → st .config ≡ cfg → st .owed ≡ true → cfg .watch .n * cfg .limit ≤ length c
+  next-reads : (st : State) (c : List ℕ) → st .config ≡ cfg → st .owed ≡ true → cfg .watch .n * cfg .rules .limit ≤ length c
       → nextOf st p c ≡ readOn (suc (left (st .cursor))) st p c
   unfolding nextOf readAll shortBy
   next-reads st c e o h = rw (e, o, le-ltb _ _ long, le-ltb _ _ h)

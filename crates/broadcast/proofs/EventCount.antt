@@ -27,6 +27,7 @@ use Rattle.mmtp.specs.Unit.{
   lengthBytes,
   length-bytes-pos,
 }
+use Rattle.reassembly.specs.declared.config.Rules.{Rules}
 use Rattle.reassembly.specs.declared.config.Config.{Config}
 use Rattle.reassembly.specs.declared.join.Action.{Action}
 use Rattle.reassembly.specs.declared.join.Action.the-variants.{Nothing, Whole as GiveWhole, Store, Complete}
@@ -88,11 +89,11 @@ module _ {A : Type 0} (x : Input) (a : A) (l : Lane A) (n : ℕ) (h : length (x 
   given-count (Store at) = omega arith
   given-count (Complete at) = z
 
-step-count : {A : Type 0} (limit : ℕ) (l : Lane A) (a : A) (x : Input) (n : ℕ) → length (x .wholes) ≤ n → 1 ≤ n
-    → length (step limit l a x .events) ≤ n + 2
+step-count : {A : Type 0} (rules : Rules) (l : Lane A) (a : A) (x : Input) (n : ℕ) → length (x .wholes) ≤ n → 1 ≤ n
+    → length (step rules l a x .events) ≤ n + 2
 unfolding step
-step-count limit l a x n h z =
-    let j = joinOf (l .channel) (x .piece) limit in
+step-count rules l a x n h z =
+    let j = joinOf (l .channel) (x .piece) rules in
     let m = laneAfter l a x j in
     let i = notes-count j in
     let g = given-count x a m n h z (j .action) in
@@ -106,7 +107,7 @@ module _ {A : Type 0} (cfg : Config) (f : ℕ → Lane A) (a : A) where
       let us = piecesOf m (k .payload) in
       let x = inputFrom k us in
       let c = pieces-count m (k .payload) (k .payload .aggregated) refl in
-      step-count (cfg .limit) (f (k .place)) a x (suc (length m)) (rw length-map c) (omega arith)
+      step-count (cfg .rules) (f (k .place)) a x (suc (length m)) (rw length-map c) (omega arith)
 
   flow-count : (b : List ℕ) (fl : Flow) → flowOf b (cfg .cid) ≡ fl
       → length (afterRead cfg (flowBy fl cfg b) f a .events) ≤ length b + 2

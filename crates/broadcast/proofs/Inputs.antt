@@ -80,32 +80,32 @@ module _ {A : Type 0} (c : Config) where
 
   -- a packet, and the events behind it
   module _ (es : List (Slot-event A)) (xs : List (List A × Input)) where
-    read-units : (r : Read) (f : Lanes A) (a : List A) → ((h : Lanes A) → units (events c h es) ≡ units (run (c .limit) h xs))
+    read-units : (r : Read) (f : Lanes A) (a : List A) → ((h : Lanes A) → units (events c h es) ≡ units (run (c .rules) h xs))
         → units (afterRead c r f a .events ++ events c (afterRead c r f a .lanes) es)
-        ≡ units (run (c .limit) f (asInput r a ++ xs))
+        ≡ units (run (c .rules) f (asInput r a ++ xs))
     read-units silent f a ih = ih f
     read-units (noted n id) f a ih = ih f
     read-units (input x) f a ih =
-        let s = step (c .limit) (f (x .place)) a x in
-        let h = withLane (c .limit) f (x .place) (s .lane) in
+        let s = step (c .rules) (f (x .place)) a x in
+        let h = withLane (c .rules) f (x .place) (s .lane) in
         unfold run in
-        units-append (s .events) (events c h es) ∙ rw (ih h) (sym (units-append (s .events) (run (c .limit) h xs)))
+        units-append (s .events) (events c h es) ∙ rw (ih h) (sym (units-append (s .events) (run (c .rules) h xs)))
 
     read-clean : (r : Read) (f : Lanes A) (a : List A)
-        → ((h : Lanes A) → Clean (events c h es) → Slot-clean es × Clean (run (c .limit) h xs))
+        → ((h : Lanes A) → Clean (events c h es) → Slot-clean es × Clean (run (c .rules) h xs))
         → Clean (afterRead c r f a .events ++ events c (afterRead c r f a .lanes) es)
-        → Slot-clean es × Clean (run (c .limit) f (asInput r a ++ xs))
+        → Slot-clean es × Clean (run (c .rules) f (asInput r a ++ xs))
     read-clean silent f a ih q = ih f q
     read-clean (noted n id) f a ih q = absurd q
     read-clean (input x) f a ih q =
-        let s = step (c .limit) (f (x .place)) a x in
-        let h = withLane (c .limit) f (x .place) (s .lane) in
+        let s = step (c .rules) (f (x .place)) a x in
+        let h = withLane (c .rules) f (x .place) (s .lane) in
         let t = ih h (clean-right (s .events) (events c h es) q) in
         unfold run in
-        (t .0, clean-append (s .events) (run (c .limit) h xs) (clean-left (s .events) (events c h es) q) (t .1))
+        (t .0, clean-append (s .events) (run (c .rules) h xs) (clean-left (s .events) (events c h es) q) (t .1))
 
   -- the account's units are those of the packets that count
-  pub events-units : (es : List (Slot-event A)) (f : Lanes A) → units (events c f es) ≡ units (run (c .limit) f (counted es))
+  pub events-units : (es : List (Slot-event A)) (f : Lanes A) → units (events c f es) ≡ units (run (c .rules) f (counted es))
   unfolding events inputs
   events-units [] f = unfold run in refl
   events-units (slot-note n ∷ es) f = events-units es f
@@ -114,7 +114,7 @@ module _ {A : Type 0} (c : Config) where
 
   -- and where it notes nothing, neither do the slots nor these packets
   pub events-clean : (es : List (Slot-event A)) (f : Lanes A) → Clean (events c f es)
-      → Slot-clean es × Clean (run (c .limit) f (counted es))
+      → Slot-clean es × Clean (run (c .rules) f (counted es))
   unfolding events inputs
   events-clean [] f q = unfold run in (tt, tt)
   events-clean (slot-note n ∷ es) f q = absurd q

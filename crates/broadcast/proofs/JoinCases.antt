@@ -7,6 +7,7 @@ use lib.Dec.{ltb}
 use Rattle.mmtp.specs.declared.header.Psn.{Psn}
 use Rattle.mmtp.specs.declared.payload.Indicator.{Indicator}
 use Rattle.mmtp.specs.declared.payload.Indicator.the-variants.{Whole, First, Middle, Last}
+use Rattle.reassembly.specs.declared.config.Rules.{Rules}
 use Rattle.reassembly.specs.declared.channel.Phase.{Phase}
 use Rattle.reassembly.specs.declared.channel.Phase.the-variants.{Unheard, Waiting, Idle, Open}
 use Rattle.reassembly.specs.declared.channel.OpenUnit.{OpenUnit}
@@ -30,45 +31,45 @@ abbrev pub grownBy : OpenUnit → Piece → OpenUnit
 grownBy o p = record { unit = o .unit; counter = p .counter; len = o .len + p .len }
 
 -- a piece with this indicator, at a packet_id in this phase with this open unit
-pub data Joins (limit : ℕ) (o : OpenUnit) (p : Piece) : Indicator → Phase → Joined → Type 0 where
-  waits : {f : Indicator} {ph : Phase} (l : Psn) (n : ℕ) (v : Bool) → Joins limit o p f ph (joinedAs Waiting l o n v Nothing)
-  gives : {ph : Phase} (l : Psn) (n : ℕ) (v : Bool) → Joins limit o p Whole ph (joinedAs Idle l o n v GiveWhole)
-  begins : {ph : Phase} (l : Psn) (n : ℕ) (v : Bool) → p .len ≤ limit
-      → Joins limit o p First ph (joinedAs Open l (record { unit = p .unit; counter = p .counter; len = p .len }) n v (Store 0))
-  grows : (l : Psn) (n : ℕ) (v : Bool) → o .len + p .len ≤ limit
-      → Joins limit o p Middle Open (joinedAs Open l (grownBy o p) n v (Store (o .len)))
-  ends : (l : Psn) (n : ℕ) (v : Bool) → o .len + p .len ≤ limit
-      → Joins limit o p Last Open (joinedAs Idle l (grownBy o p) n v (Complete (o .len)))
+pub data Joins (rules : Rules) (o : OpenUnit) (p : Piece) : Indicator → Phase → Joined → Type 0 where
+  waits : {f : Indicator} {ph : Phase} (l : Psn) (n : ℕ) (v : Bool) → Joins rules o p f ph (joinedAs Waiting l o n v Nothing)
+  gives : {ph : Phase} (l : Psn) (n : ℕ) (v : Bool) → Joins rules o p Whole ph (joinedAs Idle l o n v GiveWhole)
+  begins : {ph : Phase} (l : Psn) (n : ℕ) (v : Bool) → p .len ≤ rules .limit
+      → Joins rules o p First ph (joinedAs Open l (record { unit = p .unit; counter = p .counter; len = p .len }) n v (Store 0))
+  grows : (l : Psn) (n : ℕ) (v : Bool) → o .len + p .len ≤ rules .limit
+      → Joins rules o p Middle Open (joinedAs Open l (grownBy o p) n v (Store (o .len)))
+  ends : (l : Psn) (n : ℕ) (v : Bool) → o .len + p .len ≤ rules .limit
+      → Joins rules o p Last Open (joinedAs Idle l (grownBy o p) n v (Complete (o .len)))
 
-module _ (limit : ℕ) (o : OpenUnit) (p : Piece) where
+module _ (rules : Rules) (o : OpenUnit) (p : Piece) where
   abbrev at : Phase → Psn → Channel
   at ph l = record { phase = ph; last = l; current = o }
 
-  begins-by : (ph : Phase) (l : Psn) (n : ℕ) (t : Bool) → ltb limit (p .len) ≡ t
-      → Joins limit o p First ph (begun (at ph l) p limit n)
+  begins-by : (ph : Phase) (l : Psn) (n : ℕ) (t : Bool) → ltb (rules .limit) (p .len) ≡ t
+      → Joins rules o p First ph (begun (at ph l) p rules n)
   unfolding begun
   begins-by ph l n true e = rw e (waits l n true)
-  begins-by ph l n false e = rw e (begins l n false (ltb-false limit (p .len) e))
+  begins-by ph l n false e = rw e (begins l n false (ltb-false (rules .limit) (p .len) e))
 
   abbrev Follows : Bool → Type 0
   Follows b = agrees (o .unit) (p .unit) && counterFollows (o .counter) (p .counter) ≡ b
 
   abbrev Over : Bool → Type 0
-  Over b = ltb limit (o .len + p .len) ≡ b
+  Over b = ltb (rules .limit) (o .len + p .len) ≡ b
 
-  grows-by : (l : Psn) (t v : Bool) → Follows t → Over v → Joins limit o p Middle Open (extended (at Open l) p limit false)
+  grows-by : (l : Psn) (t v : Bool) → Follows t → Over v → Joins rules o p Middle Open (extended (at Open l) p rules false)
   unfolding extended grown
   grows-by l false v e x = rw e (waits l (numberOf Apart) false)
   grows-by l true true e x = rw (e, x) (waits l 0 true)
-  grows-by l true false e x = rw (e, x) (grows l 0 false (ltb-false limit (o .len + p .len) x))
+  grows-by l true false e x = rw (e, x) (grows l 0 false (ltb-false (rules .limit) (o .len + p .len) x))
 
-  ends-by : (l : Psn) (t v : Bool) → Follows t → Over v → Joins limit o p Last Open (extended (at Open l) p limit true)
+  ends-by : (l : Psn) (t v : Bool) → Follows t → Over v → Joins rules o p Last Open (extended (at Open l) p rules true)
   unfolding extended grown
   ends-by l false v e x = rw e (waits l (numberOf Apart) false)
   ends-by l true true e x = rw (e, x) (waits l 0 true)
-  ends-by l true false e x = rw (e, x) (ends l 0 false (ltb-false limit (o .len + p .len) x))
+  ends-by l true false e x = rw (e, x) (ends l 0 false (ltb-false (rules .limit) (o .len + p .len) x))
 
-  acts : (f : Indicator) (ph : Phase) (l : Psn) → Joins limit o p f ph (actedBy f (at ph l) p limit)
+  acts : (f : Indicator) (ph : Phase) (l : Psn) → Joins rules o p f ph (actedBy f (at ph l) p rules)
   unfolding followed
   acts Whole ph l = gives l _ false
   acts First ph l = begins-by ph l _ _ refl
@@ -82,15 +83,15 @@ module _ (limit : ℕ) (o : OpenUnit) (p : Piece) where
   acts Last Open l = ends-by l _ _ refl refl
 
   -- after a gap the piece comes to a packet_id that waits
-  after-gap : (f : Indicator) (ph : Phase) (j : Joined) → Joins limit o p f Waiting j → Joins limit o p f ph (noted 60 j)
+  after-gap : (f : Indicator) (ph : Phase) (j : Joined) → Joins rules o p f Waiting j → Joins rules o p f ph (noted 60 j)
   after-gap f ph j (waits l n v) = waits l (numberOf Gap) v
   after-gap Whole ph j (gives l n v) = gives l (numberOf Gap) v
   after-gap First ph j (begins l n v h) = begins l (numberOf Gap) v h
 
-pub joins : (limit : ℕ) (ch : Channel) (p : Piece) → Joins limit (ch .current) p (p .indicator) (ch .phase) (joinOf ch p limit)
+pub joins : (rules : Rules) (ch : Channel) (p : Piece) → Joins rules (ch .current) p (p .indicator) (ch .phase) (joinOf ch p rules)
 unfolding joinOf acted
-joins limit ch p = go (gap ch (p .unit .psn)) refl
+joins rules ch p = go (gap ch (p .unit .psn)) refl
   where
-    go : (t : Bool) → gap ch (p .unit .psn) ≡ t → Joins limit (ch .current) p (p .indicator) (ch .phase) (joinOf ch p limit)
-    go true e = rw e (after-gap limit (ch .current) p _ _ _ (acts limit (ch .current) p (p .indicator) Waiting (p .unit .psn)))
-    go false e = rw e (acts limit (ch .current) p (p .indicator) (ch .phase) (p .unit .psn))
+    go : (t : Bool) → gap ch (p .unit .psn) ≡ t → Joins rules (ch .current) p (p .indicator) (ch .phase) (joinOf ch p rules)
+    go true e = rw e (after-gap rules (ch .current) p _ _ _ (acts rules (ch .current) p (p .indicator) Waiting (p .unit .psn)))
+    go false e = rw e (acts rules (ch .current) p (p .indicator) (ch .phase) (p .unit .psn))

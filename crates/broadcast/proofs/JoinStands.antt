@@ -12,6 +12,7 @@ use Rattle.mmtp.specs.declared.payload.Indicator.{Indicator}
 use Rattle.mmtp.specs.declared.payload.Indicator.the-variants.{Whole, First, Middle, Last}
 use Rattle.mmtp.specs.Payload.{unitsFit}
 use Rattle.mmtp.specs.Unit.{pieceAt}
+use Rattle.reassembly.specs.declared.config.Rules.{Rules}
 use Rattle.reassembly.specs.declared.channel.Phase.{Phase}
 use Rattle.reassembly.specs.declared.channel.Phase.the-variants.{Unheard, Waiting, Idle, Open}
 use Rattle.reassembly.specs.declared.channel.OpenUnit.{OpenUnit}
@@ -28,39 +29,39 @@ use Rattle.broadcast.proofs.PacketInput.{inputAt, unit-is, wholes-are, 
 use Rattle.broadcast.proofs.Parts.{pasted-behind, pasted-before, pasted-after, regions}
 
 -- collecting memory after a packet
-abbrev pub collects : Joined → Located → List ℕ → List ℕ → ℕ → List ℕ
-collects j l p c limit = collected (j .action) c (baseOf l limit) (bytesAt l p) (unitIn l p)
+abbrev pub collects : Joined → Located → List ℕ → List ℕ → Rules → List ℕ
+collects j l p c rules = collected (j .action) c (baseOf l (rules .limit)) (bytesAt l p) (unitIn l p)
 
 abbrev pub gatheredBytes : Indicator → List ℕ → Located → List ℕ → List ℕ
 gatheredBytes f old l p = gathered f old (inputAt l p .bytes)
 
 -- what the packet gives, and what it leaves; `old` are the bytes of the open unit, `ls` the labels of the lane after it
-pub record Does {A : Type 0} (limit : ℕ) (l : Located) (p c : List ℕ) (a : A) (ls : List A) (old : List ℕ)
+pub record Does {A : Type 0} (rules : Rules) (l : Located) (p c : List ℕ) (a : A) (ls : List A) (old : List ℕ)
     (f : Indicator) (j : Joined)
     : Type 0 where
-  pub collecting : OpenIs (j .channel .phase) (l .packet .place) limit (j .channel .current .len)
-      (gatheredBytes f old l p) (collects j l p c limit)
-  pub give : givePending (giveOf (j .action) j l (baseOf l limit) (unitIn l p)) p (collects j l p c limit)
+  pub collecting : OpenIs (j .channel .phase) (l .packet .place) rules (j .channel .current .len)
+      (gatheredBytes f old l p) (collects j l p c rules)
+  pub give : givePending (giveOf (j .action) j l (baseOf l (rules .limit)) (unitIn l p)) p (collects j l p c rules)
       ≡ map strip (given (j .action) a (inputAt l p)
       (record { channel = j .channel; labels = ls; bytes = gatheredBytes f old l p }))
-  pub good : GiveGood (giveOf (j .action) j l (baseOf l limit) (unitIn l p)) p
-  pub size : length (collects j l p c limit) ≡ length c
+  pub good : GiveGood (giveOf (j .action) j l (baseOf l (rules .limit)) (unitIn l p)) p
+  pub size : length (collects j l p c rules) ≡ length c
   pub others : (i : ℕ) → (i ≡ l .packet .place → ⊥) → (ph : Phase) (len : ℕ) (b : List ℕ)
-      → OpenIs ph i limit len b c → OpenIs ph i limit len b (collects j l p c limit)
+      → OpenIs ph i rules len b c → OpenIs ph i rules len b (collects j l p c rules)
 
 -- bytes of a packet_id, in a memory that has the same bytes at its place
-pub open-same : (i limit : ℕ) (c c' : List ℕ)
-    → ((len : ℕ) → len ≤ limit → take len (drop (i * limit) c') ≡ take len (drop (i * limit) c))
-    → (ph : Phase) (len : ℕ) (b : List ℕ) → OpenIs ph i limit len b c → OpenIs ph i limit len b c'
-open-same i limit c c' h Unheard len b o = tt
-open-same i limit c c' h Waiting len b o = tt
-open-same i limit c c' h Idle len b o = tt
-open-same i limit c c' h Open len b o = (o .0, o .1 ∙ sym (h len (o .0)))
+pub open-same : (i : ℕ) (rules : Rules) (c c' : List ℕ)
+    → ((len : ℕ) → len ≤ rules .limit → take len (drop (i * rules .limit) c') ≡ take len (drop (i * rules .limit) c))
+    → (ph : Phase) (len : ℕ) (b : List ℕ) → OpenIs ph i rules len b c → OpenIs ph i rules len b c'
+open-same i rules c c' h Unheard len b o = tt
+open-same i rules c c' h Waiting len b o = tt
+open-same i rules c c' h Idle len b o = tt
+open-same i rules c c' h Open len b o = (o .0, o .1 ∙ sym (h len (o .0)))
 
-module _ (limit : ℕ) (l : Located) (p c : List ℕ) (fit : unitsFit (bytesAt l p) (l .packet .payload) ≡ true)
-    (room : l .packet .place * limit + limit ≤ length c) where
+module _ (rules : Rules) (l : Located) (p c : List ℕ) (fit : unitsFit (bytesAt l p) (l .packet .payload) ≡ true)
+    (room : l .packet .place * rules .limit + rules .limit ≤ length c) where
   abbrev base : ℕ
-  base = baseOf l limit
+  base = baseOf l (rules .limit)
 
   abbrev n : ℕ
   n = unitLen (unitIn l p)
@@ -78,7 +79,7 @@ module _ (limit : ℕ) (l : Located) (p c : List ℕ) (fit : unitsFit (bytesAt l
       let d = length-drop (unitIn l p .start) (bytesAt l p) in
       omega (arith, i .ordered, i .within)
 
-  module _ (at : ℕ) (h : at + n ≤ limit) where
+  module _ (at : ℕ) (h : at + n ≤ rules .limit) where
     behind : (old : List ℕ) → old ≡ take at (drop base c) → old ++ inputAt l p .bytes ≡ take (at + n) (drop base (after at))
     unfolding pieceAt
     behind old e =
@@ -87,29 +88,29 @@ module _ (limit : ℕ) (l : Located) (p c : List ℕ) (fit : unitsFit (bytesAt l
     same-size : length (after at) ≡ length c
     same-size = length-pasted c (base + at) src n (omega arith) long
 
-    apart : (i : ℕ) → (i ≡ l .packet .place → ⊥) → (len : ℕ) → len ≤ limit
-        → take len (drop (i * limit) (after at)) ≡ take len (drop (i * limit) c)
+    apart : (i : ℕ) → (i ≡ l .packet .place → ⊥) → (len : ℕ) → len ≤ rules .limit
+        → take len (drop (i * rules .limit) (after at)) ≡ take len (drop (i * rules .limit) c)
     apart i ne len k = go (decLt i (l .packet .place))
       where
-        go : Dec (i < l .packet .place) → take len (drop (i * limit) (after at)) ≡ take len (drop (i * limit) c)
+        go : Dec (i < l .packet .place) → take len (drop (i * rules .limit) (after at)) ≡ take len (drop (i * rules .limit) c)
         go (yes q) =
-            let r = regions limit i (l .packet .place) q in
-            pasted-before c src n long (base + at) (i * limit) len (omega arith) (omega arith)
+            let r = regions (rules .limit) i (l .packet .place) q in
+            pasted-before c src n long (base + at) (i * rules .limit) len (omega arith) (omega arith)
         go (no q) =
-            let r = regions limit (l .packet .place) i (omega arith) in
-            ap (take len) (pasted-after c src n long (base + at) (i * limit) (omega arith) (omega arith))
+            let r = regions (rules .limit) (l .packet .place) i (omega arith) in
+            ap (take len) (pasted-after c src n long (base + at) (i * rules .limit) (omega arith) (omega arith))
 
     aside : (i : ℕ) → (i ≡ l .packet .place → ⊥) → (ph : Phase) (len : ℕ) (b : List ℕ)
-        → OpenIs ph i limit len b c → OpenIs ph i limit len b (after at)
-    aside i ne = open-same i limit c (after at) (apart i ne)
+        → OpenIs ph i rules len b c → OpenIs ph i rules len b (after at)
+    aside i ne = open-same i rules c (after at) (apart i ne)
 
     -- the joined bytes, as show returns them
     shows : (old : List ℕ) → old ≡ take at (drop base c) → partOf (after at) base (at + n) ≡ old ++ inputAt l p .bytes
     shows old e = let s = same-size in part-inside (after at) base (at + n) (omega arith) ∙ sym (behind old e)
 
   module _ {A : Type 0} (a : A) (ls : List A) (old : List ℕ) (o : OpenUnit) where
-    pub does : (f : Indicator) (ph : Phase) (j : Joined) → Joins limit o (inputAt l p .piece) f ph j
-        → OpenIs ph (l .packet .place) limit (o .len) old c → Does limit l p c a ls old f j
+    pub does : (f : Indicator) (ph : Phase) (j : Joined) → Joins rules o (inputAt l p .piece) f ph j
+        → OpenIs ph (l .packet .place) rules (o .len) old c → Does rules l p c a ls old f j
     unfolding collected giveOf showOf
     does f ph j (waits x y v) q = record { collecting = tt; give = refl; good = tt; size = refl; others = λ i ne ph len b r. r }
     does Whole ph j (gives x y v) q =
@@ -121,7 +122,7 @@ module _ (limit : ℕ) (l : Located) (p c : List ℕ) (fit : unitsFit (bytesAt l
           others = λ i ne ph len b r. r;
         }
     does First ph j (begins x y v h) q =
-        let z : 0 + n ≤ limit = omega arith in
+        let z : 0 + n ≤ rules .limit = omega arith in
         record {
           collecting = (h, rw zero-add at (behind 0 z [] refl));
           give = refl;

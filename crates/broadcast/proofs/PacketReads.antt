@@ -18,6 +18,7 @@ use Rattle.mmtp.specs.Notes.{not-none}
 use Rattle.mmtp.specs.Flow.{flowOf, mmtp-place}
 use Rattle.mmtp.specs.Packet.{readingOf, packet-is, packet-place}
 use Rattle.mmtp.specs.Payload.{unitsFit, piecesOf, payload-read}
+use Rattle.reassembly.specs.declared.config.Rules.{Rules}
 use Rattle.reassembly.specs.declared.channel.Channel.{Channel}
 use Rattle.reassembly.specs.declared.config.Config.{Config}
 use Rattle.reassembly.specs.declared.join.Joined.{Joined}
@@ -114,14 +115,14 @@ module _ {A : Type 0} (st : State) (p c : List ℕ) (f : ℕ → Lane (List A)) 
     abbrev k : ℕ
     k = l .packet .place
 
-    abbrev limit : ℕ
-    limit = st .config .limit
+    abbrev rules : Rules
+    rules = st .config .rules
 
     abbrev ch : Channel
     ch = getD (st .channels) k unheard
 
     abbrev j : Joined
-    j = stepOf ch l p limit
+    j = stepOf ch l p rules
 
     abbrev x : Input
     x = inputAt l p
@@ -129,23 +130,23 @@ module _ {A : Type 0} (st : State) (p c : List ℕ) (f : ℕ → Lane (List A)) 
     abbrev lane : Lane (List A)
     lane = laneAfter (f k) a x j
 
-    steps : step limit (f k) a x ≡ record { lane = lane; events = eventsOf a x j lane }
+    steps : step rules (f k) a x ≡ record { lane = lane; events = eventsOf a x j lane }
     unfolding step
     steps = rw (L .lanes k within .0)
 
-    room : k * limit + limit ≤ length c
-    room = omega (arith, regions limit k (st .config .watch .n) within, L .collecting-long)
+    room : k * rules .limit + rules .limit ≤ length c
+    room = omega (arith, regions (rules .limit) k (st .config .watch .n) within, L .collecting-long)
 
-    did : Does limit l p c a (lane .labels) (f k .bytes) (x .piece .indicator) j
+    did : Does rules l p c a (lane .labels) (f k .bytes) (x .piece .indicator) j
     did =
-        does limit l p c fit room a (lane .labels) (f k .bytes) (ch .current) (x .piece .indicator) (ch .phase) j
-        (joins limit ch (x .piece)) (L .lanes k within .1)
+        does rules l p c fit room a (lane .labels) (f k .bytes) (ch .current) (x .piece .indicator) (ch .phase) j
+        (joins rules ch (x .piece)) (L .lanes k within .1)
 
     abbrev c' : List ℕ
-    c' = collects j l p c limit
+    c' = collects j l p c rules
 
     lanes-by : (i : ℕ) → i < st .config .watch .n → (t : Bool) → eqb i k ≡ t
-        → LaneIs (getD (set (st .channels) k (j .channel)) i unheard) i limit c' (cond t lane (f i))
+        → LaneIs (getD (set (st .channels) k (j .channel)) i unheard) i rules c' (cond t lane (f i))
     lanes-by i h true e =
         let q = eqb-true i k e in
         let s : getD (set (st .channels) k (j .channel)) k unheard ≡ j .channel =
@@ -158,9 +159,9 @@ module _ {A : Type 0} (st : State) (p c : List ℕ) (f : ℕ → Lane (List A)) 
         (L .lanes i h .0, did .others i q (o .phase) (o .current .len) (f i .bytes) (L .lanes i h .1))
 
     abbrev st' : State
-    st' = withQueue (withChannels st (set (st .channels) k (j .channel))) (queueOf j l (baseOf l limit) (unitIn l p))
+    st' = withQueue (withChannels st (set (st .channels) k (j .channel))) (queueOf j l (baseOf l (rules .limit)) (unitIn l p))
 
-    good-stands : Stood (st', c') (record { lanes = withLane limit f k lane; events = eventsOf a x j lane })
+    good-stands : Stood (st', c') (record { lanes = withLane rules f k lane; events = eventsOf a x j lane })
     unfolding queuePending notesOf
     good-stands =
         record {

@@ -224,22 +224,22 @@ lost-due st p c e = go (eqb (slotRefusal st p c) 0) refl e
     go false q h = h
 
 next-long : (m : Machine) → refusalIn (did next m .answer) ≡ []
-    → (packetMemory ≤ length (m .packet)) × (m .state .config .watch .n * m .state .config .limit ≤ length (m .collecting))
+    → (packetMemory ≤ length (m .packet)) × (m .state .config .watch .n * m .state .config .rules .limit ≤ length (m .collecting))
 unfolding did nextOf readAll shortBy
 next-long m e =
-    go (ltb (length (m .packet)) packetMemory) (ltb (length (m .collecting)) (st .config .watch .n * st .config .limit)) refl refl e
+    go (ltb (length (m .packet)) packetMemory) (ltb (length (m .collecting)) (st .config .watch .n * st .config .rules .limit)) refl refl e
   where
     st : State
     st = m .state
 
     go : (x y : Bool) → ltb (length (m .packet)) packetMemory ≡ x
-        → ltb (length (m .collecting)) (st .config .watch .n * st .config .limit) ≡ y
+        → ltb (length (m .collecting)) (st .config .watch .n * st .config .rules .limit) ≡ y
         → refusalIn
         (eventAnswer
         (cond (x || y) (answered (Refused 22) st (m .collecting))
         (cond (st .owed) (readOn (suc (left (st .cursor))) st (m .packet) (m .collecting)) (answered Nothing st (m .collecting)))
         .0 .event)) ≡ []
-        → (packetMemory ≤ length (m .packet)) × (st .config .watch .n * st .config .limit ≤ length (m .collecting))
+        → (packetMemory ≤ length (m .packet)) × (st .config .watch .n * st .config .rules .limit ≤ length (m .collecting))
     go true y q r h = let z : _≡_ {A = ℕ} 0 1 = cc in absurd (omega arith)
     go false true q r h = let z : _≡_ {A = ℕ} 0 1 = cc in absurd (omega arith)
     go false false q r h = (ltb-false _ _ q, ltb-false _ _ r)
@@ -283,8 +283,8 @@ loss-config st = go (frameBusy st)
 
 loss-tells : (cfg : Config) (p c : List ℕ) → startOf cfg .refusal ≡ 0
     → (let m = did lost-frame (started cfg p c) .machine in
-    (packetMemory ≤ length (m .packet)) × (m .state .config .watch .n * m .state .config .limit ≤ length (m .collecting)))
-    → (packetMemory ≤ length p) × (cfg .watch .n * cfg .limit ≤ length c)
+    (packetMemory ≤ length (m .packet)) × (m .state .config .watch .n * m .state .config .rules .limit ≤ length (m .collecting)))
+    → (packetMemory ≤ length p) × (cfg .watch .n * cfg .rules .limit ≤ length c)
 unfolding did freshState
 loss-tells cfg p c s l =
     let st = startOf cfg .state in
@@ -296,7 +296,7 @@ module _ (cfg : Config) (s : startOf cfg .refusal ≡ 0) (d : Damage) (p c : Lis
   start = started cfg p c
 
   Suffices : Type 0
-  Suffices = (packetMemory ≤ length p) × (cfg .watch .n * cfg .limit ≤ length c)
+  Suffices = (packetMemory ≤ length p) × (cfg .watch .n * cfg .rules .limit ≤ length c)
 
   -- a lost frame first: its next is accepted
   loss-suffices : (us : List Todo) → Follows (call lost-frame ∷ drain ∷ us) start xs → refusals (call lost-frame ∷ drain ∷ us) start xs ≡ []

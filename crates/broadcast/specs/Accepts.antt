@@ -43,5 +43,5 @@ Accepts =
     -- lost of them
     (cfg : Config) → Starts cfg → (fs : List Frame) → AllGood (cfg .stream) fs → (d : Damage)
     -- packet memory of at least 21,433 bytes and collecting memory of at least n × R, whatever they hold at first
-    → (p c : List ℕ) → packetMemory ≤ length p → cfg .watch .n * cfg .limit ≤ length c
+    → (p c : List ℕ) → packetMemory ≤ length p → cfg .watch .n * cfg .rules .limit ≤ length c
     → Accepted cfg fs d p c

@@ -77,8 +77,8 @@ module _ {A : Type 0} (c : Config) where
   afterRead silent f a = record { lanes = f; events = [] }
   afterRead (noted n id) f a = record { lanes = f; events = note n id ∷ [] }
   afterRead (input x) f a =
-      let s = step (c .limit) (f (x .place)) a x in
-      record { lanes = withLane (c .limit) f (x .place) (s .lane); events = s .events }
+      let s = step (c .rules) (f (x .place)) a x in
+      record { lanes = withLane (c .rules) f (x .place) (s .lane); events = s .events }
 
 module _ {A : Type 0} (c : Config) where
   -- a note of a slot, or a packet, whose label is the list of its slots' labels

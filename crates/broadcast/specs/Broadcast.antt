@@ -21,7 +21,7 @@ use Rattle.broadcast.specs.Example.{packet, first, last, content, joined
 
 -- stream 0x0102, CID 2, packet_ids 17 and 18, units of up to 100 bytes
 unfoldable pub config : Config
-config = record { stream = 0x0102; cid = 2; watch = record { ids = 17 ∷ 18 ∷ replicate 14 0; n = 2 }; limit = 100 }
+config = record { stream = 0x0102; cid = 2; watch = record { ids = 17 ∷ 18 ∷ replicate 14 0; n = 2 }; rules = record { limit = 100 } }
 
 abbrev pub repeated : {A : Type 0} → ℕ → List A → List A
 repeated zero xs = []

@@ -6,6 +6,7 @@ use mathlib.Core.Bool.{true, false}
 use mathlib.Core.List.{List, [], _∷_}
 use lib.ListN.{length, getD, take, drop}
 use Rattle.tlv.specs.Run.{State as Slot-state, searching, held}
+use Rattle.reassembly.specs.declared.config.Rules.{Rules}
 use Rattle.reassembly.specs.declared.config.Config.{Config}
 use Rattle.reassembly.specs.declared.channel.Channel.{Channel}
 use Rattle.reassembly.specs.declared.channel.Phase.{Phase}
@@ -50,24 +51,24 @@ HeldIs h p searching = h .on ≡ false
 HeldIs h p (held ls b) = (h .on ≡ true) × (h .start + h .len ≤ length p) × (heldBytes h p ≡ b)
 
 -- the bytes of an open unit stand from the place of its packet_id on
-abbrev pub OpenIs : Phase → ℕ → ℕ → ℕ → List ℕ → List ℕ → Type 0
-OpenIs Unheard k limit len b c = Prim.Unit {0}
-OpenIs Waiting k limit len b c = Prim.Unit {0}
-OpenIs Idle k limit len b c = Prim.Unit {0}
-OpenIs Open k limit len b c = (len ≤ limit) × (b ≡ take len (drop (k * limit) c))
+abbrev pub OpenIs : Phase → ℕ → Rules → ℕ → List ℕ → List ℕ → Type 0
+OpenIs Unheard k rules len b c = Prim.Unit {0}
+OpenIs Waiting k rules len b c = Prim.Unit {0}
+OpenIs Idle k rules len b c = Prim.Unit {0}
+OpenIs Open k rules len b c = (len ≤ rules .limit) × (b ≡ take len (drop (k * rules .limit) c))
 
-abbrev pub LaneIs : {A : Type 0} → Channel → ℕ → ℕ → List ℕ → Lane A → Type 0
-LaneIs ch k limit c l = (l .channel ≡ ch) × OpenIs (ch .phase) k limit (ch .current .len) (l .bytes) c
+abbrev pub LaneIs : {A : Type 0} → Channel → ℕ → Rules → List ℕ → Lane A → Type 0
+LaneIs ch k rules c l = (l .channel ≡ ch) × OpenIs (ch .phase) k rules (ch .current .len) (l .bytes) c
 
 -- the receiver's state and memories, nothing being owed, stand for the state of the slots and of all packet_ids
 pub record Tracks {A : Type 0} (cfg : Config) (st : State) (p c : List ℕ) (tl : Slot-state A) (f : ℕ → Lane (List A)) : Type 0 where
   pub config : st .config ≡ cfg
   pub packet-long : packetMemory ≤ length p
-  pub collecting-long : cfg .watch .n * cfg .limit ≤ length c
+  pub collecting-long : cfg .watch .n * cfg .rules .limit ≤ length c
   pub places : cfg .watch .n ≤ 16
   pub channels : length (st .channels) ≡ 16
   pub paid : st .owed ≡ false
   pub cursor : st .cursor ≡ noted 0
   pub queue : (st .queue .note ≡ 0) × (st .queue .over ≡ false) × (st .queue .give ≡ empty .give)
   pub held : HeldIs (st .held) p tl
-  pub lanes : (k : ℕ) → k < cfg .watch .n → LaneIs (getD (st .channels) k unheard) k (cfg .limit) c (f k)
+  pub lanes : (k : ℕ) → k < cfg .watch .n → LaneIs (getD (st .channels) k unheard) k (cfg .rules) c (f k)

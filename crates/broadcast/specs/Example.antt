@@ -40,7 +40,7 @@ use Rattle.broadcast.specs.Carried.{inputs, rowInputs, carriedUnits, int
 
 -- CID 2, packet_ids 17 and 18
 abbrev config : Config
-config = record { stream = 1; cid = 2; watch = record { ids = 17 ∷ 18 ∷ []; n = 2 }; limit = 100 }
+config = record { stream = 1; cid = 2; watch = record { ids = 17 ∷ 18 ∷ []; n = 2 }; rules = record { limit = 100 } }
 
 -- a TLV packet of 23 bytes, two of them signalling, by packet_id, psn, first payload byte (FI in its top two bits) and counter
 abbrev pub packet : ℕ → ℕ → ℕ → ℕ → List ℕ → List ℕ

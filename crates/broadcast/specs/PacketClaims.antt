@@ -41,8 +41,8 @@ pub record LanesAre {A : Type 0} (cfg : Config) (st : State) (c : List ℕ) (f :
   pub config : st .config ≡ cfg
   pub channels : length (st .channels) ≡ 16
   pub places : cfg .watch .n ≤ 16
-  pub collecting-long : cfg .watch .n * cfg .limit ≤ length c
-  pub lanes : (k : ℕ) → k < cfg .watch .n → LaneIs (getD (st .channels) k unheard) k (cfg .limit) c (f k)
+  pub collecting-long : cfg .watch .n * cfg .rules .limit ≤ length c
+  pub lanes : (k : ℕ) → k < cfg .watch .n → LaneIs (getD (st .channels) k unheard) k (cfg .rules) c (f k)
 
 -- the state and the collecting memory after a packet: the lanes and the events are those of the account, the rest is as it was
 pub record Stands {A : Type 0} (cfg : Config) (st st' : State) (p c c' : List ℕ) (w : After (List A)) : Type 0 where

@@ -55,7 +55,7 @@ configOf b =
       stream = be 2 b 1;
       cid = be 2 b 3;
       watch = record { ids = idsOf b; n = getD b 5 0 };
-      limit = be 4 b 38;
+      rules = record { limit = be 4 b 38 };
     }
 
 -- Laws.

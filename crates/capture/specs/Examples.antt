@@ -52,7 +52,7 @@ wide =
 
 abbrev Fields : Type 0
 Fields =
-    (configOf wide .stream ≡ 0x0102) × (configOf wide .cid ≡ 0x0abc) × (configOf wide .limit ≡ 0x010203)
+    (configOf wide .stream ≡ 0x0102) × (configOf wide .cid ≡ 0x0abc) × (configOf wide .rules .limit ≡ 0x010203)
     × (configOf wide .watch .n ≡ 16)
     × (configOf wide .watch .ids ≡ 0x1234 ∷ (replicate 14 0xffff ++ (0x4321 ∷ [])))
 

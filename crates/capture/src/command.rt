@@ -5,6 +5,7 @@ ghost use lib.ListN.{length};
 ghost use Rattle.capture.specs.Command.{longestCommand, letterOf, slotSize, sizeOf, idsOf, configOf};
 use mmtp::watch::Watch;
 use reassembly::config::Config;
+use reassembly::config::Rules;
 use wire::field;
 
 pub enum Letter {
@@ -87,6 +88,8 @@ pub fn config(b: &[u8]) -> Config
         stream: field::read16(b, 1),
         cid: field::read16(b, 3),
         watch,
-        limit: field::read32(b, 38) as usize,
+        rules: Rules {
+            limit: field::read32(b, 38) as usize,
+        },
     }
 }

@@ -9,6 +9,7 @@ use crate::session::Tally;
 use lines::line::put_end;
 use mmtp::watch::Watch;
 use reassembly::config::Config;
+use reassembly::config::Rules;
 
 // Nothing read: the state that comes back beside a refusal of start.
 pub fn begin() -> Session
@@ -19,7 +20,7 @@ pub fn begin() -> Session
         stream: 0,
         cid: 0,
         watch,
-        limit: 0,
+        rules: Rules { limit: 0 },
     };
     let called = receiver::start::start(blank);
     let state = called.state;

@@ -56,7 +56,7 @@ pub record Begins (b : List ℕ) : Type 0 where
 -- packet memory of 21,433 bytes at least, and collecting memory of n × R
 pub record Suffice (cfg : Config) (p c : List ℕ) : Type 0 where
   pub packet : packetMemory ≤ length p
-  pub collecting : cfg .watch .n * cfg .limit ≤ length c
+  pub collecting : cfg .watch .n * cfg .rules .limit ≤ length c
 
 -- by the commands behind C, up to the first that is refused: the own live slots that arrive; the number of that refusal, so at most
 -- one; how many frames have begun; and the account of what arrives, each note and unit with its frame and slot. No slot is due before

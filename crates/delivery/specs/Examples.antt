@@ -34,7 +34,7 @@ piece fi counter psn len =
 
 -- R is 4, and collecting memory has eight bytes
 abbrev join : Channel → Indicator → ℕ → ℕ → List ℕ → List ℕ → JoinedPacket × List ℕ
-join ch fi counter psn b c = receivedOf (piece fi counter psn (length b)) ch empty b c 4
+join ch fi counter psn b c = receivedOf (piece fi counter psn (length b)) ch empty b c (record { limit = 4 })
 
 abbrev zeros : List ℕ
 zeros = replicate 8 0

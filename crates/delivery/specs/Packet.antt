@@ -19,6 +19,7 @@ use Rattle.mmtp.specs.Notes.{numberOf}
 use Rattle.mmtp.specs.Flow.{flowOf}
 use Rattle.mmtp.specs.Packet.{readingOf}
 use Rattle.mmtp.specs.Unit.{noFields, singleAt}
+use Rattle.reassembly.specs.declared.config.Rules.{Rules}
 use Rattle.reassembly.specs.declared.config.Config.{Config}
 use Rattle.reassembly.specs.declared.channel.Channel.{Channel}
 use Rattle.reassembly.specs.declared.join.Piece.{Piece}
@@ -147,16 +148,16 @@ baseOf l limit = l .packet .place * limit
 abbrev pub unitIn : Located → List ℕ → DataUnit
 unitIn l p = firstUnit (bytesAt l p) (l .packet .payload)
 
-abbrev pub stepOf : Channel → Located → List ℕ → ℕ → Joined
-stepOf ch l p limit = joinOf ch (pieceFrom (l .packet) (unitIn l p)) limit
+abbrev pub stepOf : Channel → Located → List ℕ → Rules → Joined
+stepOf ch l p rules = joinOf ch (pieceFrom (l .packet) (unitIn l p)) rules
 
 -- the state of the packet_id, what next has yet to give, and collecting memory
 abbrev pub joinedBy : Joined → Located → List ℕ → DataUnit → List ℕ → ℕ → JoinedPacket × List ℕ
 joinedBy j l m u c base =
     (record { channel = j .channel; queue = queueOf j l base u }, collected (j .action) c base m u)
 
-unfoldable pub joinedOf : Channel → Located → List ℕ → List ℕ → ℕ → JoinedPacket × List ℕ
-joinedOf ch l p c limit = joinedBy (stepOf ch l p limit) l (bytesAt l p) (unitIn l p) c (baseOf l limit)
+unfoldable pub joinedOf : Channel → Located → List ℕ → List ℕ → Rules → JoinedPacket × List ℕ
+joinedOf ch l p c rules = joinedBy (stepOf ch l p rules) l (bytesAt l p) (unitIn l p) c (baseOf l (rules .limit))
 
 -- the place of the packet's packet_id in the watch list; 0 where there is no packet to join
 abbrev pub placeOf : Arrived → ℕ
@@ -165,20 +166,20 @@ placeOf (Noted n id) = 0
 placeOf (Good l) = l .packet .place
 
 -- there is room where the packet's packet_id collects
-abbrev pub Fits : Arrived → ℕ → ℕ → Type 0
-Fits Silent limit n = Unit₀
-Fits (Noted m id) limit n = Unit₀
-Fits (Good l) limit n = l .packet .place * limit + limit ≤ n
+abbrev pub Fits : Arrived → Rules → ℕ → Type 0
+Fits Silent rules n = Unit₀
+Fits (Noted m id) rules n = Unit₀
+Fits (Good l) rules n = l .packet .place * rules .limit + rules .limit ≤ n
 
 -- what next has yet to give of a packet that is noted before it comes to joining
 abbrev pub noteQueue : PacketNote → ℕ → Queue
 noteQueue n id = record { note = numberOf n; over = false; «packet_id» = id; give = Nothing }
 
 -- a packet comes to the state of its packet_id, and to an empty queue
-unfoldable pub receivedOf : Arrived → Channel → Queue → List ℕ → List ℕ → ℕ → JoinedPacket × List ℕ
-receivedOf Silent ch q p c limit = (record { channel = ch; queue = q }, c)
-receivedOf (Noted n id) ch q p c limit = (record { channel = ch; queue = noteQueue n id }, c)
-receivedOf (Good l) ch q p c limit = joinedOf ch l p c limit
+unfoldable pub receivedOf : Arrived → Channel → Queue → List ℕ → List ℕ → Rules → JoinedPacket × List ℕ
+receivedOf Silent ch q p c rules = (record { channel = ch; queue = q }, c)
+receivedOf (Noted n id) ch q p c rules = (record { channel = ch; queue = noteQueue n id }, c)
+receivedOf (Good l) ch q p c rules = joinedOf ch l p c rules
 
 -- Laws.
 
@@ -199,7 +200,7 @@ module _ (c : Config) (p : List ℕ) (start end : ℕ) where
   arrived-mmtp n e = rw e
 
 -- a packet is joined by its step
-pub joined-by : (ch : Channel) (l : Located) (p c : List ℕ) (limit : ℕ) (j : Joined) → stepOf ch l p limit ≡ j
-    → joinedOf ch l p c limit ≡ joinedBy j l (bytesAt l p) (unitIn l p) c (baseOf l limit)
+pub joined-by : (ch : Channel) (l : Located) (p c : List ℕ) (rules : Rules) (j : Joined) → stepOf ch l p rules ≡ j
+    → joinedOf ch l p c rules ≡ joinedBy j l (bytesAt l p) (unitIn l p) c (baseOf l (rules .limit))
 unfolding joinedOf
-joined-by ch l p c limit j e = ap (λ (x : Joined). joinedBy x l (bytesAt l p) (unitIn l p) c (baseOf l limit)) e
+joined-by ch l p c rules j e = ap (λ (x : Joined). joinedBy x l (bytesAt l p) (unitIn l p) c (baseOf l (rules .limit))) e

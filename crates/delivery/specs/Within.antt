@@ -23,6 +23,7 @@ use Rattle.mmtp.specs.Cases.{chose, chose-not}
 use Rattle.mmtp.specs.Flow.{flowOf}
 use Rattle.mmtp.specs.Packet.{readingOf, packet-place}
 use Rattle.mmtp.specs.Unit.{unitAt, dataUnit, unitFits, unit-fits, unit-fits-end, singleAt, singleUnit, singleFits, single-next}
+use Rattle.reassembly.specs.declared.config.Rules.{Rules}
 use Rattle.reassembly.specs.declared.config.Config.{Config}
 use Rattle.reassembly.specs.declared.channel.Channel.{Channel}
 use Rattle.reassembly.specs.declared.channel.Phase.{Phase}
@@ -166,74 +167,74 @@ module _ (c : Config) (p : List ℕ) (start end : ℕ) where
   arrived-below (Good l) e = arrived-place l e .low
 
   -- and room where it collects
-  pub arrived-fits : (a : Arrived) (n : ℕ) → arrivedAt c p start end ≡ a → c .watch .n * c .limit ≤ n → Fits a (c .limit) n
+  pub arrived-fits : (a : Arrived) (n : ℕ) → arrivedAt c p start end ≡ a → c .watch .n * c .rules .limit ≤ n → Fits a (c .rules) n
   arrived-fits Silent n e h = tt
   arrived-fits (Noted k id) n e h = tt
   arrived-fits (Good l) n e h =
       let k : ℕ = l .packet .place in
-      let r : k * c .limit + c .limit ≤ c .watch .n * c .limit =
-      rw suc-mul at (mul-le-mul-right (c .limit) (arrived-place l e .listed)) in
+      let r : k * c .rules .limit + c .rules .limit ≤ c .watch .n * c .rules .limit =
+      rw suc-mul at (mul-le-mul-right (c .rules .limit) (arrived-place l e .listed)) in
       omega arith
 
--- what an action stores ends within the limit
-abbrev pub Below : Action → ℕ → ℕ → Type 0
-Below NoAction n limit = Unit₀
-Below Whole n limit = Unit₀
-Below (Store at) n limit = at + n ≤ limit
-Below (Complete at) n limit = at + n ≤ limit
+-- what an action stores ends within R
+abbrev pub Below : Action → ℕ → Rules → Type 0
+Below NoAction n rules = Unit₀
+Below Whole n rules = Unit₀
+Below (Store at) n rules = at + n ≤ rules .limit
+Below (Complete at) n rules = at + n ≤ rules .limit
 
-module _ (p : Piece) (limit : ℕ) where
+module _ (p : Piece) (rules : Rules) where
   abbrev Keeps : Joined → Type 0
-  Keeps j = Below (j .action) (p .len) limit
+  Keeps j = Below (j .action) (p .len) rules
 
-  begun-below : (ch : Channel) (n : ℕ) → Keeps (begun ch p limit n)
+  begun-below : (ch : Channel) (n : ℕ) → Keeps (begun ch p rules n)
   unfolding begun
-  begun-below ch n = by-test Keeps (ltb limit (p .len)) _ _ (λ e. tt) (λ e. let h = ltb-false limit (p .len) e in omega arith)
+  begun-below ch n = by-test Keeps (ltb (rules .limit) (p .len)) _ _ (λ e. tt) (λ e. let h = ltb-false (rules .limit) (p .len) e in omega arith)
 
-  grown-below : (ch : Channel) (last : Bool) → ch .current .len + p .len ≤ limit → Keeps (grown ch p last)
+  grown-below : (ch : Channel) (last : Bool) → ch .current .len + p .len ≤ rules .limit → Keeps (grown ch p last)
   unfolding grown
   grown-below ch true h = h
   grown-below ch false h = h
 
-  extended-below : (ch : Channel) (last : Bool) → Keeps (extended ch p limit last)
+  extended-below : (ch : Channel) (last : Bool) → Keeps (extended ch p rules last)
   unfolding extended
   extended-below ch last =
       by-test Keeps (agrees (ch .current .unit) (p .unit) && counterFollows (ch .current .counter) (p .counter)) _ _
-      (λ e. by-test Keeps (ltb limit (ch .current .len + p .len)) _ _ (λ f. tt) (λ f. grown-below ch last (ltb-false _ _ f)))
+      (λ e. by-test Keeps (ltb (rules .limit) (ch .current .len + p .len)) _ _ (λ f. tt) (λ f. grown-below ch last (ltb-false _ _ f)))
       (λ e. tt)
 
-  followed-below : (ph : Phase) (ch : Channel) (last : Bool) → Keeps (followedIn ph ch p limit last)
+  followed-below : (ph : Phase) (ch : Channel) (last : Bool) → Keeps (followedIn ph ch p rules last)
   followed-below Unheard ch last = tt
   followed-below Waiting ch last = tt
   followed-below Idle ch last = tt
   followed-below Open ch last = extended-below ch last
 
-  acted-by : (i : Indicator) (ch : Channel) → Keeps (actedBy i ch p limit)
+  acted-by : (i : Indicator) (ch : Channel) → Keeps (actedBy i ch p rules)
   unfolding followed
   acted-by FI00 ch = tt
   acted-by First ch = begun-below ch _
   acted-by Middle ch = followed-below (ch .phase) ch false
   acted-by Last ch = followed-below (ch .phase) ch true
 
-  pub joined-below : (ch : Channel) → Below (joinOf ch p limit .action) (p .len) limit
+  pub joined-below : (ch : Channel) → Below (joinOf ch p rules .action) (p .len) rules
   unfolding joinOf acted
   joined-below ch =
       by-test Keeps (gap ch (p .unit .psn)) _ _ (λ e. acted-by (p .indicator) (inPhase (recorded ch p) Waiting))
       (λ e. acted-by (p .indicator) (recorded ch p))
 
 -- so a piece fits where its packet_id collects
-pub room : (a : Action) (c base limit : ℕ) (m : List ℕ) (u : DataUnit) → Below a (unitLen u) limit → base + limit ≤ c → Inside m u
+pub room : (a : Action) (c base : ℕ) (rules : Rules) (m : List ℕ) (u : DataUnit) → Below a (unitLen u) rules → base + rules .limit ≤ c → Inside m u
     → Room a c base (length m) u
-room NoAction c base limit m u b h i = tt
-room Whole c base limit m u b h i = tt
-room (Store at) c base limit m u b h i = record { ordered = i .ordered; within = i .within; fits = omega arith }
-room (Complete at) c base limit m u b h i = record { ordered = i .ordered; within = i .within; fits = omega arith }
+room NoAction c base rules m u b h i = tt
+room Whole c base rules m u b h i = tt
+room (Store at) c base rules m u b h i = record { ordered = i .ordered; within = i .within; fits = omega arith }
+room (Complete at) c base rules m u b h i = record { ordered = i .ordered; within = i .within; fits = omega arith }
 
-pub reach : (a : Action) (limit : ℕ) (u : DataUnit) → Below a (unitLen u) limit → limit < 18446744073709551616 → Reach a u
-reach NoAction limit u b h = tt
-reach Whole limit u b h = tt
-reach (Store at) limit u b h = tt
-reach (Complete at) limit u b h = omega arith
+pub reach : (a : Action) (rules : Rules) (u : DataUnit) → Below a (unitLen u) rules → rules .limit < 18446744073709551616 → Reach a u
+reach NoAction rules u b h = tt
+reach Whole rules u b h = tt
+reach (Store at) rules u b h = tt
+reach (Complete at) rules u b h = omega arith
 
 -- and collecting memory stays as long as it was
 pub length-collected : (a : Action) (c : List ℕ) (base : ℕ) (m : List ℕ) (u : DataUnit) → Room a (length c) base (length m) u
@@ -247,29 +248,29 @@ length-collected (Complete at) c base m u r =
     length-pasted c (base + at) (drop (u .start) m) (unitLen u) (r .fits) (rw length-drop (omega arith))
 
 -- where a packet's bytes come from
-module _ (ch : Channel) (l : Located) (p c : List ℕ) (limit : ℕ) (h : l .packet .place * limit + limit ≤ length c) where
+module _ (ch : Channel) (l : Located) (p c : List ℕ) (rules : Rules) (h : l .packet .place * rules .limit + rules .limit ≤ length c) where
   abbrev joins : Joined
-  joins = stepOf ch l p limit
+  joins = stepOf ch l p rules
 
-  pub joined-room : Room (joins .action) (length c) (baseOf l limit) (length (bytesAt l p)) (unitIn l p)
+  pub joined-room : Room (joins .action) (length c) (baseOf l (rules .limit)) (length (bytesAt l p)) (unitIn l p)
   joined-room =
-      room (joins .action) (length c) (baseOf l limit) limit (bytesAt l p) (unitIn l p)
-      (joined-below (pieceFrom (l .packet) (unitIn l p)) limit ch) h (first-inside (bytesAt l p) (l .packet .payload))
+      room (joins .action) (length c) (baseOf l (rules .limit)) rules (bytesAt l p) (unitIn l p)
+      (joined-below (pieceFrom (l .packet) (unitIn l p)) rules ch) h (first-inside (bytesAt l p) (l .packet .payload))
 
-  pub joined-reach : limit < 18446744073709551616 → Reach (joins .action) (unitIn l p)
+  pub joined-reach : rules .limit < 18446744073709551616 → Reach (joins .action) (unitIn l p)
   joined-reach k =
-      reach (joins .action) limit (unitIn l p) (joined-below (pieceFrom (l .packet) (unitIn l p)) limit ch) k
+      reach (joins .action) rules (unitIn l p) (joined-below (pieceFrom (l .packet) (unitIn l p)) rules ch) k
 
-  pub length-joined : length (joinedOf ch l p c limit .1) ≡ length c
+  pub length-joined : length (joinedOf ch l p c rules .1) ≡ length c
   unfolding joinedOf
-  length-joined = length-collected (joins .action) c (baseOf l limit) (bytesAt l p) (unitIn l p) joined-room
+  length-joined = length-collected (joins .action) c (baseOf l (rules .limit)) (bytesAt l p) (unitIn l p) joined-room
 
-pub length-received : (a : Arrived) (ch : Channel) (q : Queue) (p c : List ℕ) (limit : ℕ) → Fits a limit (length c)
-    → length (receivedOf a ch q p c limit .1) ≡ length c
+pub length-received : (a : Arrived) (ch : Channel) (q : Queue) (p c : List ℕ) (rules : Rules) → Fits a rules (length c)
+    → length (receivedOf a ch q p c rules .1) ≡ length c
 unfolding receivedOf
-length-received Silent ch q p c limit h = refl
-length-received (Noted n id) ch q p c limit h = refl
-length-received (Good l) ch q p c limit h = length-joined ch l p c limit h
+length-received Silent ch q p c rules h = refl
+length-received (Noted n id) ch q p c rules h = refl
+length-received (Good l) ch q p c rules h = length-joined ch l p c rules h
 
 -- the first bytes of a list, put into a memory
 pub pasted-take : (d : List ℕ) (at : ℕ) (s : List ℕ) (n : ℕ) → n ≤ length s

@@ -21,6 +21,7 @@ use mmtp::unit::Fields;
 use mmtp::unit::Step;
 use reassembly::channel::Channel;
 use reassembly::config::Config;
+use reassembly::config::Rules;
 use reassembly::join::Action;
 use reassembly::join::Joined;
 use reassembly::join::Piece;
@@ -202,16 +203,16 @@ fn give_wholes(l: Located, u: DataUnit) -> Give
     Give::One(given)
 }
 
-// A packet is joined to the state of its packet_id, which collects from its place × `limit`.
+// A packet is joined to the state of its packet_id, which collects from its place × R.
 pub fn join(
     ch: Channel,
     l: Located,
     memory: &[u8],
     collecting: &mut [u8],
-    limit: usize,
+    rules: Rules,
 ) -> JoinedPacket
-    requires { ⌜ l .packet .place * limit + limit ≤ length (now collecting) ⌝ }
-    ensures { λ r. ⌜ (r, now (collecting .exit)) ≡ joinedOf ch l (now (memory .entry)) (now (collecting .entry)) limit ⌝ }
+    requires { ⌜ l .packet .place * rules .limit + rules .limit ≤ length (now collecting) ⌝ }
+    ensures { λ r. ⌜ (r, now (collecting .exit)) ≡ joinedOf ch l (now (memory .entry)) (now (collecting .entry)) rules ⌝ }
 {
     let packet = l.packet;
     let start = l.start;
@@ -221,8 +222,8 @@ pub fn join(
     let payload = packet.payload;
     let u = first_unit(m, payload);
     let p = piece(packet, u);
-    let j = reassembly::join::join(ch, p, limit);
-    let base = packet.place * limit;
+    let j = reassembly::join::join(ch, p, rules);
+    let base = packet.place * rules.limit;
     let action = j.action;
     collect(action, collecting, base, m, u);
     let units = give(j, l, base, u);
@@ -257,11 +258,11 @@ pub fn receive(
     queue: Queue,
     memory: &[u8],
     collecting: &mut [u8],
-    limit: usize,
+    rules: Rules,
 ) -> JoinedPacket
-    requires { ⌜ Fits arrived limit (length (now collecting)) ⌝ }
+    requires { ⌜ Fits arrived rules (length (now collecting)) ⌝ }
     ensures { λ r. ⌜ (r, now (collecting .exit))
-        ≡ receivedOf arrived channel queue (now (memory .entry)) (now (collecting .entry)) limit ⌝ }
+        ≡ receivedOf arrived channel queue (now (memory .entry)) (now (collecting .entry)) rules ⌝ }
 {
     match arrived {
         Arrived::Silent => JoinedPacket { channel, queue },
@@ -274,6 +275,6 @@ pub fn receive(
             };
             JoinedPacket { channel, queue }
         }
-        Arrived::Good(l) => join(channel, l, memory, collecting, limit),
+        Arrived::Good(l) => join(channel, l, memory, collecting, rules),
     }
 }

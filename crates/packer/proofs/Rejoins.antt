@@ -9,6 +9,7 @@ use borrow.Author.Tests.{le-ltb, eq-eqb, ne-eqb}
 use lib.ListN.{length, length-append, length-map}
 use Rattle.mmtp.specs.declared.header.Psn.{Psn}
 use Rattle.mmtp.specs.declared.payload.Indicator.the-variants.{Whole, First, Middle, Last}
+use Rattle.reassembly.specs.declared.config.Rules.{Rules}
 use Rattle.reassembly.specs.declared.unit.Unit.{Unit}
 use Rattle.reassembly.specs.declared.channel.Phase.the-variants.{Idle, Open}
 use Rattle.reassembly.specs.declared.channel.Channel.{Channel}
@@ -22,8 +23,8 @@ use Rattle.packer.specs.Rejoins.{inputAt, inputsFrom, inputs, Ready, unh
 use Rattle.packer.proofs.Pieces.{pieces-some, joined-pieces}
 
 -- one step without a note, by the indicator
-module _ {A : Type 0} (limit : ℕ) (l : Lane A) (a : A) (x : Input) (g : gap (l .channel) (x .piece .unit .psn) ≡ false) where
-  step-whole : x .piece .indicator ≡ Whole → interrupted (l .channel .phase) ≡ 0 → step limit l a x ≡ record {
+module _ {A : Type 0} (rules : Rules) (l : Lane A) (a : A) (x : Input) (g : gap (l .channel) (x .piece .unit .psn) ≡ false) where
+  step-whole : x .piece .indicator ≡ Whole → interrupted (l .channel .phase) ≡ 0 → step rules l a x ≡ record {
     lane = record {
       channel = record { phase = Idle; last = x .piece .unit .psn; current = l .channel .current };
       labels = l .labels;
@@ -34,8 +35,8 @@ module _ {A : Type 0} (limit : ℕ) (l : Lane A) (a : A) (x : Input) (g : gap (l
   unfolding step joinOf acted notesOf
   step-whole i q = rw (g, i, q)
 
-  step-first : x .piece .indicator ≡ First → interrupted (l .channel .phase) ≡ 0 → x .piece .len ≤ limit
-      → step limit l a x ≡ record {
+  step-first : x .piece .indicator ≡ First → interrupted (l .channel .phase) ≡ 0 → x .piece .len ≤ rules .limit
+      → step rules l a x ≡ record {
         lane = record {
           channel = record {
             phase = Open;
@@ -52,8 +53,8 @@ module _ {A : Type 0} (limit : ℕ) (l : Lane A) (a : A) (x : Input) (g : gap (l
 
   module _ (o : l .channel .phase ≡ Open) (w : agrees (l .channel .current .unit) (x .piece .unit) ≡ true)
       (c : counterFollows (l .channel .current .counter) (x .piece .counter) ≡ true)
-      (h : l .channel .current .len + x .piece .len ≤ limit) where
-    step-middle : x .piece .indicator ≡ Middle → step limit l a x ≡ record {
+      (h : l .channel .current .len + x .piece .len ≤ rules .limit) where
+    step-middle : x .piece .indicator ≡ Middle → step rules l a x ≡ record {
       lane = record {
         channel = record { phase = Open; last = x .piece .unit .psn; current = longer (l .channel) (x .piece) };
         labels = l .labels ++ (a ∷ []);
@@ -64,7 +65,7 @@ module _ {A : Type 0} (limit : ℕ) (l : Lane A) (a : A) (x : Input) (g : gap (l
     unfolding step joinOf acted followed extended grown notesOf
     step-middle i = rw (g, i, o, w, c, le-ltb _ _ h)
 
-    step-last : x .piece .indicator ≡ Last → step limit l a x ≡ record {
+    step-last : x .piece .indicator ≡ Last → step rules l a x ≡ record {
       lane = record {
         channel = record { phase = Idle; last = x .piece .unit .psn; current = longer (l .channel) (x .piece) };
         labels = l .labels ++ (a ∷ []);
@@ -126,7 +127,7 @@ tagged-back : {A : Type 0} (xs : List (A × Input)) → tagged (map (λ x. x .0)
 tagged-back [] = refl
 tagged-back (x ∷ xs) = rw (tagged-back xs)
 
-module _ {A : Type 0} (limit place n : ℕ) (u : Unit) where
+module _ {A : Type 0} (rules : Rules) (place n : ℕ) (u : Unit) where
   -- the lane after packet `i`, the unit still open
   abbrev openAfter : ℕ → List A → List ℕ → Lane A
   openAfter i ls bs =
@@ -141,26 +142,26 @@ module _ {A : Type 0} (limit place n : ℕ) (u : Unit) where
       }
 
   -- a packet in front
-  with-place : (f : ℕ → Lane A) (l : Lane A) → withLane limit f place l place ≡ l
+  with-place : (f : ℕ → Lane A) (l : Lane A) → withLane rules f place l place ≡ l
   with-place f l = rw (eq-eqb place place refl)
 
-  with-other : (f : ℕ → Lane A) (l : Lane A) (k : ℕ) → (k ≡ place → ⊥) → withLane limit f place l k ≡ f k
+  with-other : (f : ℕ → Lane A) (l : Lane A) (k : ℕ) → (k ≡ place → ⊥) → withLane rules f place l k ≡ f k
   with-other f l k h = rw (ne-eqb k place h)
 
   abbrev Runs : (ℕ → Lane A) → List (A × Input) → Stepped A → List (A × Input) → Type 0
   Runs f ys w xs =
-      (run limit f ys ≡ w .events ++ run limit (withLane limit f place (w .lane)) xs)
-      × (lanesAfter limit f ys ≡ lanesAfter limit (withLane limit f place (w .lane)) xs)
+      (run rules f ys ≡ w .events ++ run rules (withLane rules f place (w .lane)) xs)
+      × (lanesAfter rules f ys ≡ lanesAfter rules (withLane rules f place (w .lane)) xs)
 
   runs : (f : ℕ → Lane A) (a : A) (i : ℕ) (s : List ℕ) (xs : List (A × Input)) (l : Lane A) (w : Stepped A)
-      → f place ≡ l → step limit l a (inputAt u place n i s) ≡ w → Runs f ((a, inputAt u place n i s) ∷ xs) w xs
+      → f place ≡ l → step rules l a (inputAt u place n i s) ≡ w → Runs f ((a, inputAt u place n i s) ∷ xs) w xs
   unfolding run lanesAfter
   runs f a i s xs l w e h = (rw (e, h), rw (e, h))
 
   -- without an event
   in-front : (f : ℕ → Lane A) (ys xs : List (A × Input)) (o : Lane A) (ls : List A) (bs : List ℕ)
-      → Runs f ys (record { lane = o; events = [] }) xs → Rejoined limit place u n ls bs (withLane limit f place o) xs
-      → Rejoined limit place u n ls bs f ys
+      → Runs f ys (record { lane = o; events = [] }) xs → Rejoined rules place u n ls bs (withLane rules f place o) xs
+      → Rejoined rules place u n ls bs f ys
   in-front f ys xs o ls bs z y =
       record {
         events = z .0 ∙ y .events;
@@ -172,7 +173,7 @@ module _ {A : Type 0} (limit place n : ℕ) (u : Unit) where
   -- with the one unit, and nothing behind it
   at-end : (f : ℕ → Lane A) (ys : List (A × Input)) (o : Lane A) (ls : List A) (bs : List ℕ)
       → Runs f ys (record { lane = o; events = labelled ls (record { info = u; bytes = bs }) ∷ [] }) [] → o .channel .phase ≡ Idle
-      → o .channel .last ≡ withPsn u (n - 1) .psn → Rejoined limit place u n ls bs f ys
+      → o .channel .last ≡ withPsn u (n - 1) .psn → Rejoined rules place u n ls bs f ys
   unfolding run lanesAfter
   at-end f ys o ls bs z p q =
       record {
@@ -183,7 +184,7 @@ module _ {A : Type 0} (limit place n : ℕ) (u : Unit) where
       }
 
   -- the steps behind packet `i`
-  module _ (i : ℕ) (ls : List A) (bs : List ℕ) (a : A) (s : List ℕ) (h : length bs + length s ≤ limit) where
+  module _ (i : ℕ) (ls : List A) (bs : List ℕ) (a : A) (s : List ℕ) (h : length bs + length s ≤ rules .limit) where
     gap-on : gap (openAfter i ls bs .channel) (withPsn u (i + 1) .psn) ≡ false
     unfolding gap heard nextPsn withPsn
     gap-on =
@@ -191,11 +192,11 @@ module _ {A : Type 0} (limit place n : ℕ) (u : Unit) where
         rw (eq-eqb _ _ e)
 
     middle-on : i + 1 + 1 < n
-        → step limit (openAfter i ls bs) a (inputAt u place n (i + 1) s)
+        → step rules (openAfter i ls bs) a (inputAt u place n (i + 1) s)
         ≡ record { lane = openAfter (i + 1) (ls ++ (a ∷ [])) (bs ++ s); events = [] }
     unfolding pieceAt
     middle-on l =
-        step-middle limit (openAfter i ls bs) a (inputAt u place n (i + 1) s) gap-on refl (agrees-with u (i + 1))
+        step-middle rules (openAfter i ls bs) a (inputAt u place n (i + 1) s) gap-on refl (agrees-with u (i + 1))
         (counter-on n i (omega arith)) h (indicator-middle n i l)
         ∙ rw (length-append bs s)
 
@@ -213,35 +214,35 @@ module _ {A : Type 0} (limit place n : ℕ) (u : Unit) where
         }
 
     last-on : i + 1 + 1 ≡ n
-        → step limit (openAfter i ls bs) a (inputAt u place n (i + 1) s)
+        → step rules (openAfter i ls bs) a (inputAt u place n (i + 1) s)
         ≡ record { lane = closed; events = labelled (ls ++ (a ∷ [])) (record { info = u; bytes = bs ++ s }) ∷ [] }
     unfolding pieceAt
     last-on l =
-        step-last limit (openAfter i ls bs) a (inputAt u place n (i + 1) s) gap-on refl (agrees-with u (i + 1))
+        step-last rules (openAfter i ls bs) a (inputAt u place n (i + 1) s) gap-on refl (agrees-with u (i + 1))
         (counter-on n i (omega arith)) h (indicator-last n i l)
 
   -- the packets behind packet `i`
   goes-on : (ps : List (List ℕ)) (tags : List A) (f : ℕ → Lane A) (i : ℕ) (ls : List A) (bs : List ℕ)
       → f place ≡ openAfter i ls bs → length tags ≡ length ps → 0 < length ps → i + 1 + length ps ≡ n
-      → length bs + length (joined ps) ≤ limit
-      → Rejoined limit place u n (ls ++ tags) (bs ++ joined ps) f (tagged tags (inputsFrom u place n (i + 1) ps))
+      → length bs + length (joined ps) ≤ rules .limit
+      → Rejoined rules place u n (ls ++ tags) (bs ++ joined ps) f (tagged tags (inputsFrom u place n (i + 1) ps))
   unfolding inputsFrom joined
   goes-on [] tags f i ls bs e l p q r = absurd (omega arith)
   goes-on (s ∷ ps) [] f i ls bs e l p q r = absurd (omega arith)
   goes-on (s ∷ []) (a ∷ []) f i ls bs e l p q r =
-      let h : length bs + length s ≤ limit = omega (arith, length-append s []) in
+      let h : length bs + length s ≤ rules .limit = omega (arith, length-append s []) in
       let d : i + 1 ≡ n - 1 = omega arith in
       let z = runs f a (i + 1) s [] _ _ e (last-on i ls bs a s h (omega arith)) in
       rw (append-nil s) (at-end f _ (closed i ls bs a s h) (ls ++ (a ∷ [])) (bs ++ s) z refl (rw d))
   goes-on (s ∷ []) (a ∷ (b ∷ tags)) f i ls bs e l p q r = absurd (omega arith)
   goes-on (s ∷ (t ∷ ps)) (a ∷ tags) f i ls bs e l p q r =
       let j = t ++ joined ps in
-      let h : length bs + length s ≤ limit = omega (arith, length-append s j) in
-      let k : length (bs ++ s) + length j ≤ limit = omega (arith, length-append s j, length-append bs s) in
+      let h : length bs + length s ≤ rules .limit = omega (arith, length-append s j) in
+      let k : length (bs ++ s) + length j ≤ rules .limit = omega (arith, length-append s j, length-append bs s) in
       let o = openAfter (i + 1) (ls ++ (a ∷ [])) (bs ++ s) in
       let xs = tagged tags (inputsFrom u place n (i + 1 + 1) (t ∷ ps)) in
       let z = runs f a (i + 1) s xs _ _ e (middle-on i ls bs a s h (omega arith)) in
-      let y = goes-on (t ∷ ps) tags (withLane limit f place o) (i + 1) (ls ++ (a ∷ [])) (bs ++ s) (with-place f o) (omega arith)
+      let y = goes-on (t ∷ ps) tags (withLane rules f place o) (i + 1) (ls ++ (a ∷ [])) (bs ++ s) (with-place f o) (omega arith)
       (omega arith) (omega arith) k in
       in-front f _ xs o _ _ z (rw (append-assoc bs s j, append-assoc ls (a ∷ []) tags) at y)
 
@@ -253,38 +254,38 @@ module _ {A : Type 0} (limit place n : ℕ) (u : Unit) where
 
     -- of more than one
     begins : (ps : List (List ℕ)) (tags : List A) → length tags ≡ length ps → 0 < length ps → 1 + length ps ≡ n
-        → length (s ++ joined ps) ≤ limit
-        → Rejoined limit place u n (a ∷ tags) (s ++ joined ps) f
+        → length (s ++ joined ps) ≤ rules .limit
+        → Rejoined rules place u n (a ∷ tags) (s ++ joined ps) f
         ((a, inputAt u place n 0 s) ∷ tagged tags (inputsFrom u place n (0 + 1) ps))
     unfolding pieceAt
     begins ps tags l p k r =
         let x = inputAt u place n 0 s in
         let t = length-append s (joined ps) in
         let o = openAfter 0 (a ∷ []) s in
-        let e : step limit (f place) a x ≡ record { lane = o; events = [] } =
-        step-first limit (f place) a x first-gap (indicator-first n (omega arith)) q (omega arith) ∙ rw b in
+        let e : step rules (f place) a x ≡ record { lane = o; events = [] } =
+        step-first rules (f place) a x first-gap (indicator-first n (omega arith)) q (omega arith) ∙ rw b in
         let xs = tagged tags (inputsFrom u place n (0 + 1) ps) in
-        let y = goes-on ps tags (withLane limit f place o) 0 (a ∷ []) s (with-place f o) l p (omega arith) (omega arith) in
+        let y = goes-on ps tags (withLane rules f place o) 0 (a ∷ []) s (with-place f o) l p (omega arith) (omega arith) in
         in-front f _ xs o _ _ (runs f a 0 s xs _ _ refl e) y
 
     -- the only one
-    alone : 1 ≡ n → Rejoined limit place u n (a ∷ []) (s ++ []) f ((a, inputAt u place n 0 s) ∷ [])
+    alone : 1 ≡ n → Rejoined rules place u n (a ∷ []) (s ++ []) f ((a, inputAt u place n 0 s) ∷ [])
     unfolding pieceAt indicatorAt
     alone k =
         let x = inputAt u place n 0 s in
         let c : Channel = record { phase = Idle; last = u .psn; current = f place .channel .current } in
         let o : Lane A = record { channel = c; labels = f place .labels; bytes = f place .bytes } in
         let t : List (Event A) = labelled (a ∷ []) (record { info = u; bytes = s }) ∷ [] in
-        let e : step limit (f place) a x ≡ record { lane = o; events = t } =
-        step-whole limit (f place) a x first-gap (rw (← k)) q ∙ rw b in
+        let e : step rules (f place) a x ≡ record { lane = o; events = t } =
+        step-whole rules (f place) a x first-gap (rw (← k)) q ∙ rw b in
         let d : n - 1 ≡ 0 = omega arith in
         rw (append-nil s) (at-end f _ o (a ∷ []) s (runs f a 0 s [] _ _ refl e) refl (rw (d, b)))
 
   -- all packets
   rejoins : (ps : List (List ℕ)) (tags : List A) (f : ℕ → Lane A) → withPsn u 0 ≡ u → gap (f place .channel) (u .psn) ≡ false
       → interrupted (f place .channel .phase) ≡ 0 → length tags ≡ length ps → length ps ≡ n → 0 < n
-      → (1 < n → length (joined ps) ≤ limit)
-      → Rejoined limit place u n tags (joined ps) f (tagged tags (inputsFrom u place n 0 ps))
+      → (1 < n → length (joined ps) ≤ rules .limit)
+      → Rejoined rules place u n tags (joined ps) f (tagged tags (inputsFrom u place n 0 ps))
   unfolding inputsFrom joined
   rejoins [] tags f b g q l k p r = absurd (omega arith)
   rejoins (s ∷ ps) [] f b g q l k p r = absurd (omega arith)
@@ -306,7 +307,7 @@ length-inputs u place n i (s ∷ ps) = ap suc (length-inputs u place n (i + 1) p
 
 pub unit-rejoined : UnitRejoined
 unfolding inputs
-unit-rejoined A limit place m u s f xs h r y e =
+unit-rejoined A rules place m u s f xs h r y e =
     let ps = pieces m s in
     let tags = map (λ (x : A × Input). x .0) xs in
     let t : tagged tags (inputsFrom u place (length ps) 0 ps) ≡ xs = rw e at (tagged-back xs) in
@@ -314,7 +315,7 @@ unit-rejoined A limit place m u s f xs h r y e =
     length-map xs _ ∙ sym (length-map xs _) ∙ ap length e ∙ length-inputs u place (length ps) 0 ps in
     let g = ready-on (f place .channel) (u .psn) y in
     let j = joined-pieces m s in
-    let z = rejoins limit place (length ps) u ps tags f (with-zero u h) (g .0) (g .1) l refl (pieces-some m s) (rw j r) in
+    let z = rejoins rules place (length ps) u ps tags f (with-zero u h) (g .0) (g .1) l refl (pieces-some m s) (rw j r) in
     rw (t, j) at z
 
 -- the psn that a unit after this one begins with

@@ -4,6 +4,7 @@ use mathlib.Core.Path.{_≡_}
 use mathlib.Core.List.{List, [], _∷_, map}
 use lib.ListN.{length}
 use Rattle.mmtp.specs.declared.header.Psn.{Psn}
+use Rattle.reassembly.specs.declared.config.Rules.{Rules}
 use Rattle.reassembly.specs.declared.unit.Unit.{Unit}
 use Rattle.reassembly.specs.declared.channel.Phase.the-variants.{Unheard, Idle}
 use Rattle.reassembly.specs.declared.channel.Channel.{Channel}
@@ -30,17 +31,17 @@ pub data Ready (ch : Channel) (psn : Psn) : Type 0 where
   idle : ch .phase ≡ Idle → nextPsn (ch .last) ≡ psn → Ready ch psn
 
 -- one unit, with the labels of its packets, and no note; then idle, with the last packet's psn; the other packet_ids as they were
-pub record Rejoined {A : Type 0} (limit place : ℕ) (u : Unit) (n : ℕ) (ls : List A) (s : List ℕ) (f : ℕ → Lane A)
+pub record Rejoined {A : Type 0} (rules : Rules) (place : ℕ) (u : Unit) (n : ℕ) (ls : List A) (s : List ℕ) (f : ℕ → Lane A)
     (xs : List (A × Input)) : Type 0 where
-  pub events : run limit f xs ≡ labelled ls (record { info = u; bytes = s }) ∷ []
-  pub phase : lanesAfter limit f xs place .channel .phase ≡ Idle
-  pub last : lanesAfter limit f xs place .channel .last ≡ withPsn u (n - 1) .psn
-  pub others : (k : ℕ) → (k ≡ place → ⊥) → lanesAfter limit f xs k ≡ f k
+  pub events : run rules f xs ≡ labelled ls (record { info = u; bytes = s }) ∷ []
+  pub phase : lanesAfter rules f xs place .channel .phase ≡ Idle
+  pub last : lanesAfter rules f xs place .channel .last ≡ withPsn u (n - 1) .psn
+  pub others : (k : ℕ) → (k ≡ place → ⊥) → lanesAfter rules f xs k ≡ f k
 
 -- for labels of any type; "joined units at most R"
 abbrev pub UnitRejoined : Type 1
 UnitRejoined =
-    (A : Type 0) (limit place m : ℕ) (u : Unit) (s : List ℕ) (f : ℕ → Lane A) (xs : List (A × Input))
-    → u .psn .0 < 2 ^ 32 → (1 < length (pieces m s) → length s ≤ limit) → Ready (f place .channel) (u .psn)
+    (A : Type 0) (rules : Rules) (place m : ℕ) (u : Unit) (s : List ℕ) (f : ℕ → Lane A) (xs : List (A × Input))
+    → u .psn .0 < 2 ^ 32 → (1 < length (pieces m s) → length s ≤ rules .limit) → Ready (f place .channel) (u .psn)
     → map (λ x. x .1) xs ≡ inputs u place m s
-    → Rejoined limit place u (length (pieces m s)) (map (λ x. x .0) xs) s f xs
+    → Rejoined rules place u (length (pieces m s)) (map (λ x. x .0) xs) s f xs

@@ -9,6 +9,7 @@ use borrow.Author.Tests.{eqb-true, ne-eqb, not-false}
 use Rattle.mmtp.specs.declared.header.Psn.{Psn}
 use Rattle.mmtp.specs.declared.payload.Indicator.{Indicator}
 use Rattle.mmtp.specs.declared.payload.Indicator.the-variants.{Whole, First, Middle, Last}
+use Rattle.reassembly.specs.declared.config.Rules.{Rules}
 use Rattle.reassembly.specs.declared.channel.Phase.{Phase}
 use Rattle.reassembly.specs.declared.channel.Phase.the-variants.{Unheard, Waiting, Idle, Open}
 use Rattle.reassembly.specs.declared.channel.Channel.{Channel}
@@ -49,8 +50,8 @@ deaf-waiting ph e = rw e tt
 
 -- ---- lanes
 module _ {A : Type 0} where
-  went-heard : {limit : ℕ} {l : Lane A} {a : A} {x : Input} {f : Indicator} {ph : Phase} {s : Stepped A}
-      → Went limit l a x f ph s → (heard (s .lane .channel .phase) ≡ true) × (s .lane .channel .last ≡ x .piece .unit .psn)
+  went-heard : {rules : Rules} {l : Lane A} {a : A} {x : Input} {f : Indicator} {ph : Phase} {s : Stepped A}
+      → Went rules l a x f ph s → (heard (s .lane .channel .phase) ≡ true) × (s .lane .channel .last ≡ x .piece .unit .psn)
   unfolding heard
   went-heard (gives t) = (refl, refl)
   went-heard (begins t e) = (refl, refl)
@@ -118,29 +119,29 @@ module _ {A : Type 0} (keep : A → Bool) where
   one-is a true k = rw k
   one-is a false k = rw k
 
-  module _ (limit : ℕ) where
+  module _ (rules : Rules) where
     -- ---- FI 10 or 11 gives nothing to a lane that waits, and leaves it waiting
     abbrev Idles : Input → Stepped A → Type 0
     Idles x w =
         (w .lane .channel .phase ≡ Waiting) × (w .lane .channel .last ≡ x .piece .unit .psn) × (units (w .events) ≡ [])
 
     module _ (d : Lane A) (a : A) (x : Input) where
-      further-idles : (f : Indicator) → Further f → Idles x (does limit f Waiting d a x)
+      further-idles : (f : Indicator) → Further f → Idles x (does rules f Waiting d a x)
       unfolding does followed notesOf
       further-idles Whole t = absurd t
       further-idles First t = absurd t
       further-idles Middle t = (refl, refl, refl)
       further-idles Last t = (refl, refl, refl)
 
-      deaf-idles : (f : Indicator) → Further f → (ph : Phase) → Deaf ph → Idles x (does limit f ph d a x)
-      deaf-idles f t ph v = rw (deaf-does limit d a x f ph v) (further-idles f t)
+      deaf-idles : (f : Indicator) → Further f → (ph : Phase) → Deaf ph → Idles x (does rules f ph d a x)
+      deaf-idles f t ph v = rw (deaf-does rules d a x f ph v) (further-idles f t)
 
     -- two steps to lanes of one state, with the same units
     abbrev Along : Stepped A → Stepped A → Type 0
     Along s w = Alike (s .lane) (w .lane) × (units (w .events) ≡ units (s .events))
 
     equal-along : (f : Indicator) (ph : Phase) (a : A) (x : Input) {u d : Lane A} {s : Stepped A} → d ≡ u
-        → does limit f ph u a x ≡ s → Along s (does limit f ph d a x)
+        → does rules f ph u a x ≡ s → Along s (does rules f ph d a x)
     equal-along f ph a x {s = s} e q = rw (e, q) (alike-self (s .lane), refl)
 
     -- a step of w that was received, beside the step s of all packets: in step again, or adrift
@@ -151,7 +152,7 @@ module _ {A : Type 0} (keep : A → Bool) where
 
     -- ---- a step without a note, by what it comes to
     module _ {u : Lane A} {a : A} {x : Input} where
-      went-lost : {f : Indicator} {ph : Phase} {s : Stepped A} → Went limit u a x f ph s → keep a ≡ false
+      went-lost : {f : Indicator} {ph : Phase} {s : Stepped A} → Went rules u a x f ph s → keep a ≡ false
           → (unharmed keep (units (s .events)) ≡ []) × Holds false (s .lane)
       went-lost (gives t) k = (units-lost a (x .wholes) k, tt)
       went-lost (begins t e) k = (refl, one-is a false k)
@@ -159,7 +160,7 @@ module _ {A : Type 0} (keep : A → Bool) where
       went-lost grows k = (refl, not-all-last keep (u .labels) a k)
       went-lost ends k = (rw (not-all-last keep (u .labels) a k), tt)
 
-      went-received : {f : Indicator} {ph : Phase} {s : Stepped A} → Went limit u a x f ph s → keep a ≡ true
+      went-received : {f : Indicator} {ph : Phase} {s : Stepped A} → Went rules u a x f ph s → keep a ≡ true
           → Carried true ph (u .labels) → (units (s .events) ≡ unharmed keep (units (s .events))) × Holds true (s .lane)
       went-received (gives t) k c = (units-received a (x .wholes) k, tt)
       went-received (begins t e) k c = (refl, one-is a true k)
@@ -168,8 +169,8 @@ module _ {A : Type 0} (keep : A → Bool) where
       went-received ends k c = (rw (all-last keep (u .labels) a c k), tt)
 
       -- a lane of the same state goes along
-      went-along : {f : Indicator} {ph : Phase} {s : Stepped A} → Went limit u a x f ph s → (d : Lane A) → Same ph u d
-          → does limit f ph u a x ≡ s → Along s (does limit f ph d a x)
+      went-along : {f : Indicator} {ph : Phase} {s : Stepped A} → Went rules u a x f ph s → (d : Lane A) → Same ph u d
+          → does rules f ph u a x ≡ s → Along s (does rules f ph d a x)
       unfolding does begun notesOf
       went-along {ph = ph} (gives t) d e q = rw (shut-quiet ph t) (record { phase = refl; last = refl; same = tt }, refl)
       went-along {ph = ph} (begins t v) d e q =
@@ -181,8 +182,8 @@ module _ {A : Type 0} (keep : A → Bool) where
       went-along ends d e q = equal-along Last Open a x e q
 
       -- a lane that waits begins again
-      went-again : {f : Indicator} {ph : Phase} {s : Stepped A} → Went limit u a x f ph s → (d : Lane A) → keep a ≡ true
-          → Carried false ph (u .labels) → Again s (does limit f Waiting d a x)
+      went-again : {f : Indicator} {ph : Phase} {s : Stepped A} → Went rules u a x f ph s → (d : Lane A) → keep a ≡ true
+          → Carried false ph (u .labels) → Again s (does rules f Waiting d a x)
       unfolding does begun notesOf interrupted
       went-again (gives t) d k c =
           (inl (record { phase = refl; last = refl; same = tt }, tt), units-received a (x .wholes) k)
@@ -199,12 +200,12 @@ module _ {A : Type 0} (keep : A → Bool) where
           (inr (deaf-waiting _ (i .0), tt), rw (not-all-before keep (u .labels) a c) (i .2))
 
     -- ---- the step itself
-    module _ (u d : Lane A) (n : ℕ) (a : A) (x : Input) (h : Clean (step limit u a x .events)) where
-      went : Went limit u a x (x .piece .indicator) (u .channel .phase) (step limit u a x)
-      went = clean-step limit u a x h
+    module _ (u d : Lane A) (n : ℕ) (a : A) (x : Input) (h : Clean (step rules u a x .events)) where
+      went : Went rules u a x (x .piece .indicator) (u .channel .phase) (step rules u a x)
+      went = clean-step rules u a x h
 
       next : heard (u .channel .phase) ≡ true → x .piece .unit .psn .0 ≡ (u .channel .last .0 + 1) % 4294967296
-      next e = no-gap-next (u .channel) (x .piece .unit .psn) e (clean-on limit u a x h)
+      next e = no-gap-next (u .channel) (x .piece .unit .psn) e (clean-on rules u a x h)
 
       -- one packet more since those that d has got
       next-but : (g : ℕ) → heard (u .channel .phase) ≡ true
@@ -214,55 +215,55 @@ module _ {A : Type 0} (keep : A → Bool) where
 
       lost-behind : (g : ℕ) → heard (d .channel .phase) ≡ true
           → x .piece .unit .psn .0 ≡ (d .channel .last .0 + suc g) % 4294967296 → g ≤ n → keep a ≡ false
-          → Beside (step limit u a x .lane) d (suc n)
+          → Beside (step rules u a x .lane) d (suc n)
       lost-behind g q e m k =
           behind (suc g) (went-heard went .0) q (rw (went-heard went .1) e) (omega arith) (omega arith) (went-lost went k .1)
 
       pub step-lost : Beside u d n → keep a ≡ false
-          → Beside (step limit u a x .lane) d (suc n) × (unharmed keep (units (step limit u a x .events)) ≡ [])
+          → Beside (step rules u a x .lane) d (suc n) × (unharmed keep (units (step rules u a x .events)) ≡ [])
       step-lost b k = (moved b, went-lost went k .0)
         where
-          parted : Alike u d → (t : Bool) → heard (d .channel .phase) ≡ t → Beside (step limit u a x .lane) d (suc n)
+          parted : Alike u d → (t : Bool) → heard (d .channel .phase) ≡ t → Beside (step rules u a x .lane) d (suc n)
           parted e true q = lost-behind 0 q (rw (e .last) (next (rw (e .phase) at q))) (omega arith) k
           parted e false q = adrift (deaf-unheard _ q) (went-lost went k .1)
 
-          moved : Beside u d n → Beside (step limit u a x .lane) d (suc n)
+          moved : Beside u d n → Beside (step rules u a x .lane) d (suc n)
           moved (level e c) = parted e _ refl
           moved (behind g p q e i m c) = lost-behind g q (next-but g p e) m k
           moved (adrift w c) = adrift w (went-lost went k .1)
 
       abbrev Onward : Type 0
       Onward =
-          Beside (step limit u a x .lane) (step limit d a x .lane) (suc n)
-          × (units (step limit d a x .events) ≡ unharmed keep (units (step limit u a x .events)))
+          Beside (step rules u a x .lane) (step rules d a x .lane) (suc n)
+          × (units (step rules d a x .events) ≡ unharmed keep (units (step rules u a x .events)))
 
       -- the step of d is as if it waited
       abbrev Waited : Type 0
-      Waited = AsFrom limit d a x (does limit (x .piece .indicator) Waiting d a x) (step limit d a x)
+      Waited = AsFrom rules d a x (does rules (x .piece .indicator) Waiting d a x) (step rules d a x)
 
       restarted : Waited → keep a ≡ true → Holds false u → Onward
       restarted w k c = go (went-again went d k c)
         where
-          go : Again (step limit u a x) (does limit (x .piece .indicator) Waiting d a x) → Onward
+          go : Again (step rules u a x) (does rules (x .piece .indicator) Waiting d a x) → Onward
           go (inl (e, t), us) = rw (w .0, w .1) (level e t, us)
           go (inr (e, t), us) = rw (w .0, w .1) (adrift e t, us)
 
       deaf-waited : Deaf (d .channel .phase) → (t : Bool) → gap (d .channel) (x .piece .unit .psn) ≡ t → Waited
-      deaf-waited w true g = step-gap limit d a x g
+      deaf-waited w true g = step-gap rules d a x g
       deaf-waited w false g =
-          rw (step-on limit d a x g, deaf-does limit d a x (x .piece .indicator) (d .channel .phase) w) (refl, refl)
+          rw (step-on rules d a x g, deaf-does rules d a x (x .piece .indicator) (d .channel .phase) w) (refl, refl)
 
       pub step-received : Beside u d n → keep a ≡ true → n < 4294967296 → Onward
       step-received (level e c) k l =
           let on : gap (d .channel) (x .piece .unit .psn) ≡ false =
-          gap-alike e (x .piece .unit .psn) ∙ clean-on limit u a x h in
-          let f : step limit d a x ≡ does limit (x .piece .indicator) (u .channel .phase) d a x =
-          step-on limit d a x on ∙ ap (λ (ph : Phase). does limit (x .piece .indicator) ph d a x) (e .phase) in
-          let t = went-along went d (e .same) (sym (step-on limit u a x (clean-on limit u a x h))) in
+          gap-alike e (x .piece .unit .psn) ∙ clean-on rules u a x h in
+          let f : step rules d a x ≡ does rules (x .piece .indicator) (u .channel .phase) d a x =
+          step-on rules d a x on ∙ ap (λ (ph : Phase). does rules (x .piece .indicator) ph d a x) (e .phase) in
+          let t = went-along went d (e .same) (sym (step-on rules u a x (clean-on rules u a x h))) in
           let r = went-received went k c in
           rw f (level (t .0) (r .1), t .1 ∙ r .0)
       step-received (behind g p q e i m c) k l =
-          restarted (step-gap limit d a x (gap-other (d .channel) (x .piece .unit .psn) q differs)) k c
+          restarted (step-gap rules d a x (gap-other (d .channel) (x .piece .unit .psn) q differs)) k c
         where
           differs : x .piece .unit .psn .0 ≡ (d .channel .last .0 + 1) % 4294967296 → ⊥
           differs f = psn-differs (d .channel .last .0) g i (omega arith) (sym (next-but g p e) ∙ f)

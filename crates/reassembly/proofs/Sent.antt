@@ -8,6 +8,7 @@ use lib.Dec.{eqb}
 use borrow.Author.Tests.{eqb-true}
 use Rattle.mmtp.specs.declared.payload.Indicator.{Indicator}
 use Rattle.mmtp.specs.declared.payload.Indicator.the-variants.{Whole, First, Middle, Last}
+use Rattle.reassembly.specs.declared.config.Rules.{Rules}
 use Rattle.reassembly.specs.declared.channel.Phase.{Phase}
 use Rattle.reassembly.specs.declared.channel.Phase.the-variants.{Unheard, Waiting, Idle, Open}
 use Rattle.reassembly.specs.Run.{Input, Labelled, Lane, Stepped, fresh, step, withLane, run, units, Clean}
@@ -43,7 +44,7 @@ module _ {A : Type 0} where
   further-none Middle a x t = (refl, refl)
   further-none Last a x t = (refl, refl)
 
-  went-ends : {limit : ℕ} {l : Lane A} {a : A} {x : Input} {f : Indicator} {ph : Phase} {s : Stepped A} → Went limit l a x f ph s
+  went-ends : {rules : Rules} {l : Lane A} {a : A} {x : Input} {f : Indicator} {ph : Phase} {s : Stepped A} → Went rules l a x f ph s
       → Ends f (heldIn ph l) a x s
   went-ends {a = a} {x = x} (gives t) = (units-alone a (x .wholes), refl)
   went-ends (begins t e) = (refl, refl)
@@ -52,14 +53,14 @@ module _ {A : Type 0} where
   went-ends grows = (refl, refl)
   went-ends ends = (refl, refl)
 
-  module _ (limit : ℕ) where
+  module _ (rules : Rules) where
     -- every lane holds the open unit of its packets
     abbrev Holding : (ℕ → Lane A) → List (A × Input) → Type 0
     Holding f older = (k : ℕ) → openUnit k older ≡ held (f k)
 
     holding-on : (f : ℕ → Lane A) (older : List (A × Input)) (x : A × Input) (l : Lane A) → Holding f older
         → held l ≡ openBy (x .1 .piece .indicator) (held (f (x .1 .place))) (x .0) (x .1)
-        → Holding (withLane limit f (x .1 .place) l) (x ∷ older)
+        → Holding (withLane rules f (x .1 .place) l) (x ∷ older)
     unfolding openUnit
     holding-on f older x l h e k = go (eqb k (x .1 .place)) refl
       where
@@ -68,20 +69,20 @@ module _ {A : Type 0} where
         go true q = rw (eqb-true k (x .1 .place) q, h (x .1 .place)) (sym e)
         go false q = h k
 
-    sent-from : (xs : List (A × Input)) (f : ℕ → Lane A) (older : List (A × Input)) → Holding f older → Clean (run limit f xs)
-        → units (run limit f xs) ≡ sentAfter older xs
+    sent-from : (xs : List (A × Input)) (f : ℕ → Lane A) (older : List (A × Input)) → Holding f older → Clean (run rules f xs)
+        → units (run rules f xs) ≡ sentAfter older xs
     unfolding run sentAfter
     sent-from [] f older h c = refl
     sent-from (x ∷ xs) f older h c =
         let i = x .1 .place in
-        let s = step limit (f i) (x .0) (x .1) in
-        let g = withLane limit f i (s .lane) in
+        let s = step rules (f i) (x .0) (x .1) in
+        let g = withLane rules f i (s .lane) in
         let ending : Option (Labelled A) → List (Labelled A) = λ o. endingBy (x .1 .piece .indicator) o (x .0) (x .1) in
-        let w = went-ends (clean-step limit (f i) (x .0) (x .1) (clean-left (s .events) (run limit g xs) c)) in
-        units-append (s .events) (run limit g xs)
+        let w = went-ends (clean-step rules (f i) (x .0) (x .1) (clean-left (s .events) (run rules g xs) c)) in
+        units-append (s .events) (run rules g xs)
         ∙ ap₂ (λ (us vs : List (Labelled A)). us ++ vs) (w .0 ∙ ap ending (sym (h i)))
-        (sent-from xs g (x ∷ older) (holding-on f older x (s .lane) h (w .1)) (clean-right (s .events) (run limit g xs) c))
+        (sent-from xs g (x ∷ older) (holding-on f older x (s .lane) h (w .1)) (clean-right (s .events) (run rules g xs) c))
 
 pub run-sent : RunSent
 unfolding sent openUnit unheard
-run-sent A limit xs c = sent-from limit xs (λ k. fresh) [] (λ k. refl) c
+run-sent A rules xs c = sent-from rules xs (λ k. fresh) [] (λ k. refl) c

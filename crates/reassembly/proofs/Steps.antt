@@ -6,6 +6,7 @@ use mathlib.Core.List.{List, [], _∷_, _++_, map}
 use lib.Dec.{ltb}
 use Rattle.mmtp.specs.declared.payload.Indicator.{Indicator}
 use Rattle.mmtp.specs.declared.payload.Indicator.the-variants.{Whole, First, Middle, Last}
+use Rattle.reassembly.specs.declared.config.Rules.{Rules}
 use Rattle.reassembly.specs.declared.channel.Phase.{Phase}
 use Rattle.reassembly.specs.declared.channel.Phase.the-variants.{Unheard, Waiting, Idle, Open}
 use Rattle.reassembly.specs.declared.channel.OpenUnit.{OpenUnit}
@@ -68,36 +69,36 @@ module _ {A : Type 0} where
       record { channel = j .channel; labels = gathered f (l .labels) (a ∷ []); bytes = gathered f (l .bytes) (x .bytes) }
 
   -- what a step without a note comes to
-  pub data Went (limit : ℕ) (l : Lane A) (a : A) (x : Input) : Indicator → Phase → Stepped A → Type 0 where
-    gives : {ph : Phase} → Shut ph → Went limit l a x Whole ph (record {
+  pub data Went (rules : Rules) (l : Lane A) (a : A) (x : Input) : Indicator → Phase → Stepped A → Type 0 where
+    gives : {ph : Phase} → Shut ph → Went rules l a x Whole ph (record {
       lane = laneOf Idle x (l .channel .current) (l .labels) (l .bytes);
       events = map (labelled (a ∷ [])) (x .wholes);
     })
-    begins : {ph : Phase} → Shut ph → ltb limit (x .piece .len) ≡ false
-        → Went limit l a x First ph (record { lane = laneOf Open x (newly x) (a ∷ []) (x .bytes); events = [] })
-    skips : {f : Indicator} {ph : Phase} → Further f → Deaf ph → Went limit l a x f ph (record {
+    begins : {ph : Phase} → Shut ph → ltb (rules .limit) (x .piece .len) ≡ false
+        → Went rules l a x First ph (record { lane = laneOf Open x (newly x) (a ∷ []) (x .bytes); events = [] })
+    skips : {f : Indicator} {ph : Phase} → Further f → Deaf ph → Went rules l a x f ph (record {
       lane = laneOf Waiting x (l .channel .current) (gathered f (l .labels) (a ∷ [])) (gathered f (l .bytes) (x .bytes));
       events = [];
     })
-    grows : Went limit l a x Middle Open (record {
+    grows : Went rules l a x Middle Open (record {
       lane = laneOf Open x (further l x) (l .labels ++ (a ∷ [])) (l .bytes ++ x .bytes);
       events = [];
     })
-    ends : Went limit l a x Last Open (record {
+    ends : Went rules l a x Last Open (record {
       lane = laneOf Idle x (further l x) (l .labels ++ (a ∷ [])) (l .bytes ++ x .bytes);
       events = joinedUnit l a x ∷ [];
     })
 
-  module _ (limit : ℕ) where
+  module _ (rules : Rules) where
     -- (c) of a packet with this indicator at a lane in this phase, whatever they say themselves
     unfoldable pub does : Indicator → Phase → Lane A → A → Input → Stepped A
     does f ph l a x =
-        let j = actedBy f (record { phase = ph; last = x .piece .unit .psn; current = l .channel .current }) (x .piece) limit in
+        let j = actedBy f (record { phase = ph; last = x .piece .unit .psn; current = l .channel .current }) (x .piece) rules in
         record { lane = laneBy f l a x j; events = eventsOf a x j (laneBy f l a x j) }
 
     module _ (l : Lane A) (a : A) (x : Input) where
-      clean-begins : (ph : Phase) → Shut ph → (b : Bool) → ltb limit (x .piece .len) ≡ b → Clean (does First ph l a x .events)
-          → Went limit l a x First ph (does First ph l a x)
+      clean-begins : (ph : Phase) → Shut ph → (b : Bool) → ltb (rules .limit) (x .piece .len) ≡ b → Clean (does First ph l a x .events)
+          → Went rules l a x First ph (does First ph l a x)
       unfolding does begun notesOf
       clean-begins ph s true e h = absurd (rw (e, shut-quiet ph s) at h)
       clean-begins ph s false e h = rw (e, shut-quiet ph s) (begins s e)
@@ -109,28 +110,28 @@ module _ {A : Type 0} where
           && counterFollows (l .channel .current .counter) (x .piece .counter) ≡ b
 
       abbrev Over : Bool → Type 0
-      Over b = ltb limit (l .channel .current .len + x .piece .len) ≡ b
+      Over b = ltb (rules .limit) (l .channel .current .len + x .piece .len) ≡ b
 
       clean-grows : (c v : Bool) → Follows c → Over v → Clean (does Middle Open l a x .events)
-          → Went limit l a x Middle Open (does Middle Open l a x)
+          → Went rules l a x Middle Open (does Middle Open l a x)
       unfolding does followed extended grown notesOf
       clean-grows false v e o h = absurd (rw e at h)
       clean-grows true true e o h = absurd (rw (e, o) at h)
       clean-grows true false e o h = rw (e, o) grows
 
       clean-ends : (c v : Bool) → Follows c → Over v → Clean (does Last Open l a x .events)
-          → Went limit l a x Last Open (does Last Open l a x)
+          → Went rules l a x Last Open (does Last Open l a x)
       unfolding does followed extended grown notesOf
       clean-ends false v e o h = absurd (rw e at h)
       clean-ends true true e o h = absurd (rw (e, o) at h)
       clean-ends true false e o h = rw (e, o) ends
 
-      not-begun : (b : Bool) → ltb limit (x .piece .len) ≡ b → Clean (does First Open l a x .events) → ⊥
+      not-begun : (b : Bool) → ltb (rules .limit) (x .piece .len) ≡ b → Clean (does First Open l a x .events) → ⊥
       unfolding does begun interrupted notesOf
       not-begun true e h = rw e at h
       not-begun false e h = rw e at h
 
-      clean-does : (f : Indicator) (ph : Phase) → Clean (does f ph l a x .events) → Went limit l a x f ph (does f ph l a x)
+      clean-does : (f : Indicator) (ph : Phase) → Clean (does f ph l a x .events) → Went rules l a x f ph (does f ph l a x)
       unfolding does followed interrupted notesOf
       clean-does Whole Unheard h = gives tt
       clean-does Whole Waiting h = gives tt
@@ -151,7 +152,7 @@ module _ {A : Type 0} where
 
       -- the step itself: without a gap, and with one
       pub step-on : gap (l .channel) (x .piece .unit .psn) ≡ false
-          → step limit l a x ≡ does (x .piece .indicator) (l .channel .phase) l a x
+          → step rules l a x ≡ does (x .piece .indicator) (l .channel .phase) l a x
       unfolding step joinOf acted does
       step-on g = rw g
 
@@ -166,20 +167,20 @@ module _ {A : Type 0} where
           units-noted i (notesOf (noted n j)) us ∙ sym (units-noted i (notesOf j) us)
 
       pub step-gap : gap (l .channel) (x .piece .unit .psn) ≡ true
-          → AsFrom (does (x .piece .indicator) Waiting l a x) (step limit l a x)
+          → AsFrom (does (x .piece .indicator) Waiting l a x) (step rules l a x)
       unfolding step joinOf acted does
       step-gap g = rw g (refl, units-once _ _ _)
 
-      no-gap : (b : Bool) → gap (l .channel) (x .piece .unit .psn) ≡ b → Clean (step limit l a x .events) → b ≡ false
+      no-gap : (b : Bool) → gap (l .channel) (x .piece .unit .psn) ≡ b → Clean (step rules l a x .events) → b ≡ false
       unfolding step joinOf notesOf
       no-gap true g h = absurd (rw g at h)
       no-gap false g h = refl
 
-      pub clean-on : Clean (step limit l a x .events) → gap (l .channel) (x .piece .unit .psn) ≡ false
+      pub clean-on : Clean (step rules l a x .events) → gap (l .channel) (x .piece .unit .psn) ≡ false
       clean-on h = no-gap _ refl h
 
-      pub clean-step : Clean (step limit l a x .events)
-          → Went limit l a x (x .piece .indicator) (l .channel .phase) (step limit l a x)
+      pub clean-step : Clean (step rules l a x .events)
+          → Went rules l a x (x .piece .indicator) (l .channel .phase) (step rules l a x)
       clean-step h = rw (step-on (clean-on h)) (clean-does _ _ (rw (step-on (clean-on h)) at h))
 
       -- a first packet does what it does while waiting

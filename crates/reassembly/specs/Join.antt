@@ -8,6 +8,7 @@ use borrow.Author.Tests.{lt-ltb, le-ltb}
 use Rattle.mmtp.specs.declared.header.Psn.{Psn}
 use Rattle.mmtp.specs.declared.payload.Indicator.{Indicator}
 use Rattle.mmtp.specs.declared.payload.Indicator.the-variants.{Whole, First, Middle, Last}
+use Rattle.reassembly.specs.declared.config.Rules.{Rules}
 use Rattle.reassembly.specs.declared.channel.Phase.{Phase}
 use Rattle.reassembly.specs.declared.channel.Phase.the-variants.{Unheard, Waiting, Idle, Open}
 use Rattle.reassembly.specs.declared.channel.OpenUnit.{OpenUnit}
@@ -42,9 +43,9 @@ abbrev pub given : Channel → ℕ → Joined
 given ch n = record { channel = inPhase ch Idle; note = n; over = false; action = GiveWhole }
 
 -- "FI 01 opens with its bytes"; "Joined bytes above R, also at FI 01: 64, now waiting"
-unfoldable pub begun : Channel → Piece → ℕ → ℕ → Joined
-begun ch p limit n =
-    cond (ltb limit (p .len)) (kept ch Waiting n true)
+unfoldable pub begun : Channel → Piece → Rules → ℕ → Joined
+begun ch p rules n =
+    cond (ltb (rules .limit) (p .len)) (kept ch Waiting n true)
     (record {
       channel = opened ch Open (record { unit = p .unit; counter = p .counter; len = p .len });
       note = n;
@@ -65,51 +66,51 @@ grown ch p false = record { channel = opened ch Open (longer ch p); note = 0; ov
 grown ch p true = record { channel = opened ch Idle (longer ch p); note = 0; over = false; action = Complete (ch .current .len) }
 
 -- FI 10 or 11 while open: "must agree .., else 63, now waiting"; above R: 64, now waiting
-unfoldable pub extended : Channel → Piece → ℕ → Bool → Joined
-extended ch p limit last =
+unfoldable pub extended : Channel → Piece → Rules → Bool → Joined
+extended ch p rules last =
     cond (agrees (ch .current .unit) (p .unit) && counterFollows (ch .current .counter) (p .counter))
-    (cond (ltb limit (ch .current .len + p .len)) (kept ch Waiting 0 true) (grown ch p last))
+    (cond (ltb (rules .limit) (ch .current .len + p .len)) (kept ch Waiting 0 true) (grown ch p last))
     (kept ch Waiting (numberOf Apart) false)
 
-module _ (ch : Channel) (p : Piece) (limit : ℕ) (last : Bool) where
-  pub extended-apart : agrees (ch .current .unit) (p .unit) ≡ false → extended ch p limit last ≡ kept ch Waiting (numberOf Apart) false
+module _ (ch : Channel) (p : Piece) (rules : Rules) (last : Bool) where
+  pub extended-apart : agrees (ch .current .unit) (p .unit) ≡ false → extended ch p rules last ≡ kept ch Waiting (numberOf Apart) false
   unfolding extended
   extended-apart a = rw a
 
   pub extended-uncounted : agrees (ch .current .unit) (p .unit) ≡ true → counterFollows (ch .current .counter) (p .counter) ≡ false
-      → extended ch p limit last ≡ kept ch Waiting (numberOf Apart) false
+      → extended ch p rules last ≡ kept ch Waiting (numberOf Apart) false
   unfolding extended
   extended-uncounted a c = rw (a, c)
 
   pub extended-over : agrees (ch .current .unit) (p .unit) ≡ true → counterFollows (ch .current .counter) (p .counter) ≡ true
-      → limit < ch .current .len + p .len → extended ch p limit last ≡ kept ch Waiting 0 true
+      → rules .limit < ch .current .len + p .len → extended ch p rules last ≡ kept ch Waiting 0 true
   unfolding extended
   extended-over a c h = rw (a, c, lt-ltb _ _ h)
 
   pub extended-on : agrees (ch .current .unit) (p .unit) ≡ true → counterFollows (ch .current .counter) (p .counter) ≡ true
-      → ch .current .len + p .len ≤ limit → extended ch p limit last ≡ grown ch p last
+      → ch .current .len + p .len ≤ rules .limit → extended ch p rules last ≡ grown ch p last
   unfolding extended
   extended-on a c h = rw (a, c, le-ltb _ _ h)
 
 -- FI 10 or 11 by the phase; "while idle: 62, now waiting; otherwise silent, now waiting"
-abbrev pub followedIn : Phase → Channel → Piece → ℕ → Bool → Joined
-followedIn Unheard ch p limit last = kept ch Waiting 0 false
-followedIn Waiting ch p limit last = kept ch Waiting 0 false
-followedIn Idle ch p limit last = kept ch Waiting (numberOf Headless) false
-followedIn Open ch p limit last = extended ch p limit last
+abbrev pub followedIn : Phase → Channel → Piece → Rules → Bool → Joined
+followedIn Unheard ch p rules last = kept ch Waiting 0 false
+followedIn Waiting ch p rules last = kept ch Waiting 0 false
+followedIn Idle ch p rules last = kept ch Waiting (numberOf Headless) false
+followedIn Open ch p rules last = extended ch p rules last
 
-unfoldable pub followed : Channel → Piece → ℕ → Bool → Joined
-followed ch p limit last = followedIn (ch .phase) ch p limit last
+unfoldable pub followed : Channel → Piece → Rules → Bool → Joined
+followed ch p rules last = followedIn (ch .phase) ch p rules last
 
 -- (c)
-abbrev pub actedBy : Indicator → Channel → Piece → ℕ → Joined
-actedBy Whole ch p limit = given ch (interrupted (ch .phase))
-actedBy First ch p limit = begun ch p limit (interrupted (ch .phase))
-actedBy Middle ch p limit = followed ch p limit false
-actedBy Last ch p limit = followed ch p limit true
+abbrev pub actedBy : Indicator → Channel → Piece → Rules → Joined
+actedBy Whole ch p rules = given ch (interrupted (ch .phase))
+actedBy First ch p rules = begun ch p rules (interrupted (ch .phase))
+actedBy Middle ch p rules = followed ch p rules false
+actedBy Last ch p rules = followed ch p rules true
 
-unfoldable pub acted : Channel → Piece → ℕ → Joined
-acted ch p limit = actedBy (p .indicator) ch p limit
+unfoldable pub acted : Channel → Piece → Rules → Joined
+acted ch p rules = actedBy (p .indicator) ch p rules
 
 -- (b)
 abbrev pub recorded : Channel → Piece → Channel
@@ -123,9 +124,9 @@ abbrev pub noted : ℕ → Joined → Joined
 noted n j = record { channel = j .channel; note = n; over = j .over; action = j .action }
 
 -- (a), (b), (c)
-unfoldable pub joinOf : Channel → Piece → ℕ → Joined
-joinOf ch p limit =
-    cond (gap ch (p .unit .psn)) (noted (numberOf Gap) (acted (inPhase (recorded ch p) Waiting) p limit)) (acted (recorded ch p) p limit)
+unfoldable pub joinOf : Channel → Piece → Rules → Joined
+joinOf ch p rules =
+    cond (gap ch (p .unit .psn)) (noted (numberOf Gap) (acted (inPhase (recorded ch p) Waiting) p rules)) (acted (recorded ch p) p rules)
 
 -- the notes of a step, in order
 unfoldable pub notesOf : Joined → List ℕ

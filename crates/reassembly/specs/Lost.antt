@@ -57,15 +57,15 @@ whole label psn byte = record { labels = label ∷ []; content = record { info =
 abbrev pub Examples : Type 0
 Examples =
     -- nothing lost, and what the packets carry
-    (run 100 (λ k. fresh) packets ≡ unit (whole 2 7 20) ∷ unit joined ∷ unit (whole 5 8 21) ∷ [])
+    (run (record { limit = 100 }) (λ k. fresh) packets ≡ unit (whole 2 7 20) ∷ unit joined ∷ unit (whole 5 8 21) ∷ [])
     × (sent packets ≡ whole 2 7 20 ∷ joined ∷ whole 5 8 21 ∷ [])
     -- the empty piece lost: no joined unit, and the rest
-    × (run 100 (λ k. fresh) (received (without 3) packets) ≡ unit (whole 2 7 20) ∷ note 60 0 ∷ unit (whole 5 8 21) ∷ [])
+    × (run (record { limit = 100 }) (λ k. fresh) (received (without 3) packets) ≡ unit (whole 2 7 20) ∷ note 60 0 ∷ unit (whole 5 8 21) ∷ [])
     × (unharmed (without 3) (sent packets) ≡ whole 2 7 20 ∷ whole 5 8 21 ∷ [])
     -- FI 01 lost, the packet_id being unheard: FI 10 and 11 are silent
-    × (run 100 (λ k. fresh) (received (without 1) packets) ≡ unit (whole 2 7 20) ∷ unit (whole 5 8 21) ∷ [])
+    × (run (record { limit = 100 }) (λ k. fresh) (received (without 1) packets) ≡ unit (whole 2 7 20) ∷ unit (whole 5 8 21) ∷ [])
     -- a packet of the other packet_id lost: the open unit goes on
-    × (run 100 (λ k. fresh) (received (without 2) packets) ≡ unit joined ∷ unit (whole 5 8 21) ∷ [])
+    × (run (record { limit = 100 }) (λ k. fresh) (received (without 2) packets) ≡ unit joined ∷ unit (whole 5 8 21) ∷ [])
     × (unharmed (without 2) (sent packets) ≡ joined ∷ whole 5 8 21 ∷ [])
 
 pub examples : Examples

@@ -6,6 +6,7 @@ use mathlib.Core.List.{List, [], _∷_, _++_, map}
 use lib.Dec.{eqb}
 use Rattle.mmtp.specs.declared.payload.Indicator.{Indicator}
 use Rattle.mmtp.specs.declared.payload.Indicator.the-variants.{Whole, First, Middle, Last}
+use Rattle.reassembly.specs.declared.config.Rules.{Rules}
 use Rattle.reassembly.specs.declared.unit.Unit.{Unit as UnitInfo}
 use Rattle.reassembly.specs.declared.channel.Channel.{Channel}
 use Rattle.reassembly.specs.declared.join.Piece.{Piece}
@@ -79,10 +80,10 @@ module _ {A : Type 0} where
   abbrev pub eventsOf : A → Input → Joined → Lane A → List (Event A)
   eventsOf a x j l = map (λ n. note n (x .piece .unit .«packet_id»)) (notesOf j) ++ given (j .action) a x l
 
-  module _ (limit : ℕ) where
+  module _ (rules : Rules) where
     unfoldable pub step : Lane A → A → Input → Stepped A
     step l a x =
-        let j = joinOf (l .channel) (x .piece) limit in
+        let j = joinOf (l .channel) (x .piece) rules in
         record { lane = laneAfter l a x j; events = eventsOf a x j (laneAfter l a x j) }
 
     abbrev pub withLane : (ℕ → Lane A) → ℕ → Lane A → ℕ → Lane A

@@ -5,6 +5,7 @@ use mathlib.Core.Bool.{Bool}
 use mathlib.Core.List.{List, [], _∷_}
 use Rattle.mmtp.specs.declared.payload.Indicator.{Indicator}
 use Rattle.mmtp.specs.declared.payload.Indicator.the-variants.{Whole, First, Middle, Last}
+use Rattle.reassembly.specs.declared.config.Rules.{Rules}
 use Rattle.reassembly.specs.declared.channel.Channel.{Channel}
 use Rattle.reassembly.specs.declared.join.Piece.{Piece}
 use Rattle.reassembly.specs.declared.join.Action.{Action}
@@ -36,12 +37,16 @@ pub record Seen : Type 0 where
   pub notes : List ℕ
   pub action : Action
 
--- what each piece gives, the limit being R
-unfoldable pub seen : ℕ → Channel → List Piece → List Seen
-seen limit ch [] = []
-seen limit ch (p ∷ ps) =
-    let j = joinOf ch p limit in
-    record { notes = notesOf j; action = j .action } ∷ seen limit (j .channel) ps
+-- R alone
+abbrev pub upTo : ℕ → Rules
+upTo n = record { limit = n }
+
+-- what each piece gives
+unfoldable pub seen : Rules → Channel → List Piece → List Seen
+seen rules ch [] = []
+seen rules ch (p ∷ ps) =
+    let j = joinOf ch p rules in
+    record { notes = notesOf j; action = j .action } ∷ seen rules (j .channel) ps
 
 abbrev pub quiet : Action → Seen
 quiet a = record { notes = []; action = a }
@@ -54,10 +59,10 @@ Specimens =
     -- "psn after 4,294,967,295 is 0"
     (nextPsn (record { 0 = 4294967295 }) ≡ record { 0 = 0 })
     -- "psn 5, 6, 7, counters 2, 1, 0: a unit"
-    × (seen 100 unheard (piece 5 First 2 ∷ piece 6 Middle 1 ∷ piece 7 Last 0 ∷ [])
+    × (seen (upTo 100) unheard (piece 5 First 2 ∷ piece 6 Middle 1 ∷ piece 7 Last 0 ∷ [])
     ≡ quiet (Store 0) ∷ quiet (Store 10) ∷ quiet (Complete 20) ∷ [])
     -- "5, 6, 8: 60, none"
-    × (seen 100 unheard (piece 5 First 2 ∷ piece 6 Middle 1 ∷ piece 8 Last 0 ∷ [])
+    × (seen (upTo 100) unheard (piece 5 First 2 ∷ piece 6 Middle 1 ∷ piece 8 Last 0 ∷ [])
     ≡ quiet (Store 0) ∷ quiet (Store 10) ∷ noted 60 ∷ [])
 
 pub specimens : Specimens
@@ -88,16 +93,16 @@ of-item item p = with-fields 3 0 0 item p
 
 -- the first piece is stored, the second is noted 63, and the packet_id waits
 abbrev Apart : Piece → Piece → Type 0
-Apart a b = seen 100 unheard (a ∷ b ∷ piece 7 Last 0 ∷ []) ≡ quiet (Store 0) ∷ noted 63 ∷ quiet Nothing ∷ []
+Apart a b = seen (upTo 100) unheard (a ∷ b ∷ piece 7 Last 0 ∷ []) ≡ quiet (Store 0) ∷ noted 63 ∷ quiet Nothing ∷ []
 
 -- a packet_id with a unit open, whose last psn was 5
 abbrev open-unit : Channel
-open-unit = joinOf unheard (piece 5 First 2) 100 .channel
+open-unit = joinOf unheard (piece 5 First 2) (upTo 100) .channel
 
 abbrev pub Examples : Type 0
 Examples =
     -- the psn wraps inside a unit
-    (seen 100 unheard (piece 4294967295 First 1 ∷ piece 0 Last 0 ∷ []) ≡ quiet (Store 0) ∷ quiet (Complete 10) ∷ [])
+    (seen (upTo 100) unheard (piece 4294967295 First 1 ∷ piece 0 Last 0 ∷ []) ≡ quiet (Store 0) ∷ quiet (Complete 10) ∷ [])
     -- FI 11 after a counter of 255: 63, though the psn follows
     × Apart (piece 5 First 255) (piece 6 Last 0)
     -- "must agree in kind, MPU number, movie fragment and sample (or item)", also at FI 10
@@ -107,22 +112,22 @@ Examples =
     × Apart (timed 3 4 (piece 5 First 2)) (timed 3 8 (piece 6 Middle 1))
     × Apart (of-item 3 (piece 5 First 1)) (of-item 8 (piece 6 Last 0))
     -- counters that agree across a gap join nothing
-    × (seen 100 unheard (piece 5 First 2 ∷ piece 7 Middle 1 ∷ piece 8 Last 0 ∷ []) ≡ quiet (Store 0) ∷ noted 60 ∷ quiet Nothing ∷ [])
+    × (seen (upTo 100) unheard (piece 5 First 2 ∷ piece 7 Middle 1 ∷ piece 8 Last 0 ∷ []) ≡ quiet (Store 0) ∷ noted 60 ∷ quiet Nothing ∷ [])
     -- FI 10 while unheard is silent, and the packet_id is heard from then on
-    × (seen 100 unheard (piece 5 Middle 2 ∷ piece 7 Whole 0 ∷ []) ≡ quiet Nothing ∷ record { notes = 60 ∷ []; action = GiveWhole } ∷ [])
+    × (seen (upTo 100) unheard (piece 5 Middle 2 ∷ piece 7 Whole 0 ∷ []) ≡ quiet Nothing ∷ record { notes = 60 ∷ []; action = GiveWhole } ∷ [])
     -- FI 10 or 11 while idle: 62, now waiting
-    × (seen 100 unheard (piece 5 Whole 0 ∷ piece 6 Middle 2 ∷ piece 7 Middle 1 ∷ []) ≡ quiet GiveWhole ∷ noted 62 ∷ quiet Nothing ∷ [])
-    × (seen 100 unheard (piece 5 Whole 0 ∷ piece 6 Last 0 ∷ piece 7 Last 0 ∷ []) ≡ quiet GiveWhole ∷ noted 62 ∷ quiet Nothing ∷ [])
+    × (seen (upTo 100) unheard (piece 5 Whole 0 ∷ piece 6 Middle 2 ∷ piece 7 Middle 1 ∷ []) ≡ quiet GiveWhole ∷ noted 62 ∷ quiet Nothing ∷ [])
+    × (seen (upTo 100) unheard (piece 5 Whole 0 ∷ piece 6 Last 0 ∷ piece 7 Last 0 ∷ []) ≡ quiet GiveWhole ∷ noted 62 ∷ quiet Nothing ∷ [])
     -- FI 00 or 01 while open: 61, dropped
-    × (seen 100 unheard (piece 5 First 2 ∷ piece 6 Whole 0 ∷ piece 7 Middle 1 ∷ [])
+    × (seen (upTo 100) unheard (piece 5 First 2 ∷ piece 6 Whole 0 ∷ piece 7 Middle 1 ∷ [])
     ≡ quiet (Store 0) ∷ record { notes = 61 ∷ []; action = GiveWhole } ∷ noted 62 ∷ [])
-    × (seen 100 unheard (piece 5 First 2 ∷ piece 6 First 2 ∷ []) ≡ quiet (Store 0) ∷ record { notes = 61 ∷ []; action = Store 0 } ∷ [])
+    × (seen (upTo 100) unheard (piece 5 First 2 ∷ piece 6 First 2 ∷ []) ≡ quiet (Store 0) ∷ record { notes = 61 ∷ []; action = Store 0 } ∷ [])
     -- "Joined bytes above R, also at FI 01: 64, now waiting"
-    × (seen 15 unheard (piece 5 First 2 ∷ piece 6 Middle 1 ∷ piece 7 Last 0 ∷ []) ≡ quiet (Store 0) ∷ noted 64 ∷ quiet Nothing ∷ [])
-    × (seen 9 unheard (piece 5 First 1 ∷ piece 6 Last 0 ∷ []) ≡ noted 64 ∷ quiet Nothing ∷ [])
+    × (seen (upTo 15) unheard (piece 5 First 2 ∷ piece 6 Middle 1 ∷ piece 7 Last 0 ∷ []) ≡ quiet (Store 0) ∷ noted 64 ∷ quiet Nothing ∷ [])
+    × (seen (upTo 9) unheard (piece 5 First 1 ∷ piece 6 Last 0 ∷ []) ≡ noted 64 ∷ quiet Nothing ∷ [])
     -- a packet with two notes: 60 or 61, then 64
-    × (seen 9 unheard (piece 5 Whole 0 ∷ piece 7 First 1 ∷ []) ≡ quiet GiveWhole ∷ record { notes = 60 ∷ 64 ∷ []; action = Nothing } ∷ [])
-    × (notesOf (joinOf open-unit (piece 6 First 1) 9) ≡ 61 ∷ 64 ∷ [])
+    × (seen (upTo 9) unheard (piece 5 Whole 0 ∷ piece 7 First 1 ∷ []) ≡ quiet GiveWhole ∷ record { notes = 60 ∷ 64 ∷ []; action = Nothing } ∷ [])
+    × (notesOf (joinOf open-unit (piece 6 First 1) (upTo 9)) ≡ 61 ∷ 64 ∷ [])
 
 pub examples : Examples
 unfolding nextPsn heard gap unheard agrees interrupted begun counterFollows grown extended followed acted joinOf notesOf seen

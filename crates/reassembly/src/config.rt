@@ -7,6 +7,11 @@ pub struct Config {
     // The context id of the flow.
     pub cid: u16,
     pub watch: Watch,
+    pub rules: Rules,
+}
+
+// What joining goes by, beside the packet.
+pub struct Rules {
     // R: the most bytes of a joined unit.
     pub limit: usize,
 }

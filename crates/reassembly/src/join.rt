@@ -7,6 +7,7 @@ use crate::channel::Channel;
 use crate::channel::OpenUnit;
 use crate::channel::Phase;
 use crate::channel::is_gap;
+use crate::config::Rules;
 use crate::note::JoinNote;
 use crate::note::number;
 use crate::unit::Unit;
@@ -83,10 +84,10 @@ fn give(ch: Channel, note: u8) -> Joined
 }
 
 // FI 01: a unit is opened.
-fn begin(ch: Channel, p: Piece, limit: usize, note: u8) -> Joined
-    ensures { λ r. ⌜ r ≡ begun ch p limit note ⌝ }
+fn begin(ch: Channel, p: Piece, rules: Rules, note: u8) -> Joined
+    ensures { λ r. ⌜ r ≡ begun ch p rules note ⌝ }
 {
-    if limit < p.len {
+    if rules.limit < p.len {
         return keep(ch, Phase::Waiting, note, true);
     }
     let unit = p.unit;
@@ -159,8 +160,8 @@ fn grow(ch: Channel, p: Piece, last: bool) -> Joined
 }
 
 // FI 10, or with `last` FI 11, while a unit is open.
-fn extend(ch: Channel, p: Piece, limit: usize, last: bool) -> Joined
-    ensures { λ r. ⌜ r ≡ extended ch p limit last ⌝ }
+fn extend(ch: Channel, p: Piece, rules: Rules, last: bool) -> Joined
+    ensures { λ r. ⌜ r ≡ extended ch p rules last ⌝ }
 {
     let current = ch.current;
     let unit = current.unit;
@@ -172,6 +173,7 @@ fn extend(ch: Channel, p: Piece, limit: usize, last: bool) -> Joined
         return keep(ch, Phase::Waiting, number(JoinNote::Apart), false);
     }
     let at = current.len;
+    let limit = rules.limit;
     if limit < p.len {
         return keep(ch, Phase::Waiting, 0, true);
     }
@@ -182,29 +184,29 @@ fn extend(ch: Channel, p: Piece, limit: usize, last: bool) -> Joined
 }
 
 // FI 10, or with `last` FI 11.
-fn follow(ch: Channel, p: Piece, limit: usize, last: bool) -> Joined
-    ensures { λ r. ⌜ r ≡ followed ch p limit last ⌝ }
+fn follow(ch: Channel, p: Piece, rules: Rules, last: bool) -> Joined
+    ensures { λ r. ⌜ r ≡ followed ch p rules last ⌝ }
 {
     let phase = ch.phase;
     match phase {
         Phase::Unheard => keep(ch, Phase::Waiting, 0, false),
         Phase::Waiting => keep(ch, Phase::Waiting, 0, false),
         Phase::Idle => keep(ch, Phase::Waiting, number(JoinNote::Headless), false),
-        Phase::Open => extend(ch, p, limit, last),
+        Phase::Open => extend(ch, p, rules, last),
     }
 }
 
 // (c): by the indicator and the phase.
-fn act(ch: Channel, p: Piece, limit: usize) -> Joined
-    ensures { λ r. ⌜ r ≡ acted ch p limit ⌝ }
+fn act(ch: Channel, p: Piece, rules: Rules) -> Joined
+    ensures { λ r. ⌜ r ≡ acted ch p rules ⌝ }
 {
     let phase = ch.phase;
     let indicator = p.indicator;
     match indicator {
         Indicator::Whole => give(ch, interruption(phase)),
-        Indicator::First => begin(ch, p, limit, interruption(phase)),
-        Indicator::Middle => follow(ch, p, limit, false),
-        Indicator::Last => follow(ch, p, limit, true),
+        Indicator::First => begin(ch, p, rules, interruption(phase)),
+        Indicator::Middle => follow(ch, p, rules, false),
+        Indicator::Last => follow(ch, p, rules, true),
     }
 }
 
@@ -223,14 +225,14 @@ fn hear(ch: Channel, psn: Psn, gap: bool) -> Channel
 }
 
 // (a), (b), and (c) the piece is read. `act` is called at one place, so that it can be inlined.
-pub fn join(ch: Channel, p: Piece, limit: usize) -> Joined
-    ensures { λ r. ⌜ r ≡ joinOf ch p limit ⌝ }
+pub fn join(ch: Channel, p: Piece, rules: Rules) -> Joined
+    ensures { λ r. ⌜ r ≡ joinOf ch p rules ⌝ }
 {
     let unit = p.unit;
     let psn = unit.psn;
     let gap = is_gap(ch, psn);
     let heard = hear(ch, psn, gap);
-    let j = act(heard, p, limit);
+    let j = act(heard, p, rules);
     if gap {
         return Joined {
             note: number(JoinNote::Gap),

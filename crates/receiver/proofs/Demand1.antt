@@ -53,7 +53,7 @@ start-row c =
     either (Row 1 4) (ltb (c .watch .n) 1 || ltb 16 (c .watch .n)) (λ z. (omega arith, omega arith))
     (either (Row 1 4) (twice (c .watch) (c .watch .n)) (λ z. (omega arith, omega arith))
     (either (Row 1 4) (ltb 4095 (c .cid)) (λ z. (omega arith, omega arith))
-    (either (Row 1 4) (ltb (c .limit) 1 || ltb 1048576 (c .limit)) (λ z. (omega arith, omega arith)) (λ z. absurd (z refl)))))
+    (either (Row 1 4) (ltb (c .rules .limit) 1 || ltb 1048576 (c .rules .limit)) (λ z. (omega arith, omega arith)) (λ z. absurd (z refl)))))
 
 start-kept : (c : Config) → Keeps 1 4 (freshState blankConfig) (startOf c)
 unfolding startOf

@@ -112,9 +112,9 @@ module _ (q : Queue) (p c : List ℕ) (h : GiveLies (q .give) p c) where
 
 -- what a packet leaves to be given
 module _ (st : State) (p c : List ℕ) (h : GiveLies (st .queue .give) p c) (room : Ample st c) where
-  action-lies : (l : Located) → l .packet .place * st .config .limit + st .config .limit ≤ length c → (j : Joined) (a : Action)
-      → Below a (unitLen (unitIn l p)) (st .config .limit) → (c' : List ℕ) → length c' ≡ length c
-      → GiveLies (giveOf a j l (baseOf l (st .config .limit)) (unitIn l p)) p c'
+  action-lies : (l : Located) → l .packet .place * st .config .rules .limit + st .config .rules .limit ≤ length c → (j : Joined) (a : Action)
+      → Below a (unitLen (unitIn l p)) (st .config .rules) → (c' : List ℕ) → length c' ≡ length c
+      → GiveLies (giveOf a j l (baseOf l (st .config .rules .limit)) (unitIn l p)) p c'
   unfolding giveOf showOf
   action-lies l r j NoAction b c' e = tt
   action-lies l r j Whole b c' e = go (l .packet .payload .aggregated)
@@ -124,7 +124,7 @@ module _ (st : State) (p c : List ℕ) (h : GiveLies (st .queue .give) p c) (roo
       go false = whole-lies l p c' (unitIn l p) (first-inside (bytesAt l p) (l .packet .payload))
   action-lies l r j (Store at) b c' e = tt
   action-lies l r j (Complete at) b c' e =
-      part-full c' (baseOf l (st .config .limit)) (at + unitLen (unitIn l p)) (omega (arith, e, r, b))
+      part-full c' (baseOf l (st .config .rules .limit)) (at + unitLen (unitIn l p)) (omega (arith, e, r, b))
 
   arrived-lies : (s e : ℕ) (a : Arrived) → arrivedAt (st .config) p s e ≡ a
       → let r = arrivedBy a st p c in GiveLies (r .0 .queue .give) p (r .1)
@@ -132,11 +132,11 @@ module _ (st : State) (p c : List ℕ) (h : GiveLies (st .queue .give) p c) (roo
   arrived-lies s e Silent q = h
   arrived-lies s e (Noted n id) q = tt
   arrived-lies s e (Good l) q =
-      let limit = st .config .limit in
+      let rules = st .config .rules in
       let ch = getD (st .channels) (l .packet .place) unheard in
       let fits = arrived-fits (st .config) p s e (Good l) (length c) q room in
-      action-lies l fits (stepOf ch l p limit) (stepOf ch l p limit .action) (joined-below (pieceFrom (l .packet) (unitIn l p)) limit ch) _
-      (length-joined ch l p c limit fits)
+      action-lies l fits (stepOf ch l p rules) (stepOf ch l p rules .action) (joined-below (pieceFrom (l .packet) (unitIn l p)) rules ch) _
+      (length-joined ch l p c rules fits)
 
   packet-lies : (s e : ℕ) → let r = packetOf st p c s e in GiveLies (r .0 .queue .give) p (r .1)
   unfolding packetOf

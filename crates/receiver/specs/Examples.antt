@@ -21,7 +21,8 @@ use Rattle.receiver.specs.Show.{showOf}
 
 -- n ids, the first of which stands twice if n is above 1
 abbrev config : ℕ → ℕ → ℕ → Config
-config n cid limit = record { stream = 0; cid = cid; watch = record { ids = replicate 16 7; n = n }; limit = limit }
+config n cid limit =
+    record { stream = 0; cid = cid; watch = record { ids = replicate 16 7; n = n }; rules = record { limit = limit } }
 
 abbrev Starts : Type 0
 Starts =

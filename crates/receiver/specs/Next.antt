@@ -38,7 +38,7 @@ arrivedBy Silent st p c = (st, c)
 arrivedBy (Noted n id) st p c = (withQueue st (noteQueue n id), c)
 arrivedBy (Good l) st p c =
     let k = l .packet .place in
-    let j = joinedOf (getD (st .channels) k unheard) l p c (st .config .limit) in
+    let j = joinedOf (getD (st .channels) k unheard) l p c (st .config .rules) in
     (withQueue (withChannels st (set (st .channels) k (j .0 .channel))) (j .0 .queue), j .1)
 
 unfoldable pub packetOf : State → List ℕ → List ℕ → ℕ → ℕ → State × List ℕ
@@ -87,7 +87,7 @@ module _ (st : State) (p c : List ℕ) (start end : ℕ) where
 
   pub packet-good : (l : Located) → arrivedAt (st .config) p start end ≡ Good l
       → let k = l .packet .place in
-      let j = joinedOf (getD (st .channels) k unheard) l p c (st .config .limit) in
+      let j = joinedOf (getD (st .channels) k unheard) l p c (st .config .rules) in
       packetOf st p c start end ≡ (withQueue (withChannels st (set (st .channels) k (j .0 .channel))) (j .0 .queue), j .1)
   unfolding packetOf
   packet-good l e = ap (λ (a : Arrived). arrivedBy a st p c) e
@@ -106,6 +106,6 @@ module _ (st : State) (p c : List ℕ) where
   unfolding nextOf
   next-reads h o = chosen-not (shortBy (st .config) (length p) (length c)) _ _ h ∙ chosen (st .owed) _ _ o
 
-pub short-room : (c : Config) (packet collecting : ℕ) → shortBy c packet collecting ≡ false → c .watch .n * c .limit ≤ collecting
+pub short-room : (c : Config) (packet collecting : ℕ) → shortBy c packet collecting ≡ false → c .watch .n * c .rules .limit ≤ collecting
 unfolding shortBy
-short-room c packet collecting h = ltb-false collecting (c .watch .n * c .limit) (neither (ltb packet packetMemory) _ h .1)
+short-room c packet collecting h = ltb-false collecting (c .watch .n * c .rules .limit) (neither (ltb packet packetMemory) _ h .1)

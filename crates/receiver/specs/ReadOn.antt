@@ -59,7 +59,7 @@ module _ (st : State) (p c : List ℕ) where
   -- a packet by the state of its packet_id and the queue
   abbrev pub receivedBy : Arrived → State × List ℕ
   receivedBy a =
-      let r = receivedOf a (getD (st .channels) (placeOf a) unheard) (st .queue) p c (st .config .limit) in
+      let r = receivedOf a (getD (st .channels) (placeOf a) unheard) (st .queue) p c (st .config .rules) in
       (withQueue (withChannels st (set (st .channels) (placeOf a) (r .0 .channel))) (r .0 .queue), r .1)
 
   arrived-received : (a : Arrived) → arrivedBy a st p c ≡ receivedBy a
@@ -72,12 +72,12 @@ module _ (st : State) (p c : List ℕ) where
   unfolding packetOf
   packet-received start end = arrived-received (arrivedAt (st .config) p start end)
 
-  pub length-packet : (start end : ℕ) → st .config .watch .n * st .config .limit ≤ length c
+  pub length-packet : (start end : ℕ) → st .config .watch .n * st .config .rules .limit ≤ length c
       → length (packetOf st p c start end .1) ≡ length c
   length-packet start end h =
       let a = arrivedAt (st .config) p start end in
       rw (packet-received start end)
-      (length-received a _ (st .queue) p c (st .config .limit) (arrived-fits (st .config) p start end a (length c) refl h))
+      (length-received a _ (st .queue) p c (st .config .rules) (arrived-fits (st .config) p start end a (length c) refl h))
 
 -- `f` and `g` do the same where the cursor has less left than `n`
 abbrev Agree : ℕ → List ℕ → (State → List ℕ → NextOut) → (State → List ℕ → NextOut) → Type 0
@@ -129,7 +129,7 @@ module _ (st : State) (p c : List ℕ) where
   -- a packet by what it comes to
   pub read-received : (start end : ℕ) (a : Arrived) (j : JoinedPacket) (d : List ℕ) → turned .found ≡ Packet start end
       → arrivedAt (st .config) p start end ≡ a
-      → (j, d) ≡ receivedOf a (getD (st .channels) (placeOf a) unheard) (turned .queue) p c (st .config .limit)
+      → (j, d) ≡ receivedOf a (getD (st .channels) (placeOf a) unheard) (turned .queue) p c (st .config .rules)
       → readAll st p c
       ≡ readAll (withQueue (withChannels (past st turned) (set (st .channels) (placeOf a) (j .channel))) (j .queue)) p d
   read-received start end a j d h e r =
@@ -155,7 +155,7 @@ pub record Calm (st : State) (c : List ℕ) (o : NextOut) : Type 0 where
 
 -- collecting memory has room for every packet_id
 abbrev pub Ample : State → List ℕ → Type 0
-Ample st c = st .config .watch .n * st .config .limit ≤ length c
+Ample st c = st .config .watch .n * st .config .rules .limit ≤ length c
 
 onwards-calm : (x : Found) (st : State) (p c : List ℕ) (f : State → List ℕ → NextOut) → Ample st c
     → ((s : State) (d : List ℕ) → Ample s d → Calm s d (f s d)) → Calm st c (onwards x st p c f)

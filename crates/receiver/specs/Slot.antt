@@ -21,7 +21,7 @@ use Rattle.receiver.specs.Frame.{lossOf}
 
 -- "packet memory under 21,433 bytes or collecting memory under n × R", by their lengths
 unfoldable pub shortBy : Config → ℕ → ℕ → Bool
-shortBy c packet collecting = ltb packet packetMemory || ltb collecting (c .watch .n * c .limit)
+shortBy c packet collecting = ltb packet packetMemory || ltb collecting (c .watch .n * c .rules .limit)
 
 -- "20 none due; 21 next owed; 22"; 0 for none
 unfoldable pub slotRefusal : State → ℕ → ℕ → ℕ
@@ -84,35 +84,35 @@ module _ (c : Config) (packet collecting : ℕ) where
   packet-short h = rw (lt-ltb _ _ h)
 
   module _ (h : packetMemory ≤ packet) where
-    pub collecting-short : collecting < c .watch .n * c .limit → shortBy c packet collecting ≡ true
+    pub collecting-short : collecting < c .watch .n * c .rules .limit → shortBy c packet collecting ≡ true
     unfolding shortBy
     collecting-short l = rw (le-ltb _ _ h, lt-ltb _ _ l)
 
-    pub long-enough : c .watch .n * c .limit ≤ collecting → shortBy c packet collecting ≡ false
+    pub long-enough : c .watch .n * c .rules .limit ≤ collecting → shortBy c packet collecting ≡ false
     unfolding shortBy
     long-enough l = rw (le-ltb _ _ h, le-ltb _ _ l)
 
     -- without a product, which may be too large for the machine
-    pub short-by-quotient : (c .limit ≡ 0 → ⊥) → shortBy c packet collecting ≡ ltb (collecting / c .limit) (c .watch .n)
+    pub short-by-quotient : (c .rules .limit ≡ 0 → ⊥) → shortBy c packet collecting ≡ ltb (collecting / c .rules .limit) (c .watch .n)
     unfolding shortBy
     short-by-quotient z =
-        rw (le-ltb _ _ h) (go (ltb (collecting / c .limit) (c .watch .n)) refl (div-lt-iff-lt-mul (omega arith)))
+        rw (le-ltb _ _ h) (go (ltb (collecting / c .rules .limit) (c .watch .n)) refl (div-lt-iff-lt-mul (omega arith)))
       where
-        go : (b : Bool) → ltb (collecting / c .limit) (c .watch .n) ≡ b
-            → ((collecting / c .limit < c .watch .n) ↔ (collecting < c .watch .n * c .limit))
-            → ltb collecting (c .watch .n * c .limit) ≡ b
+        go : (b : Bool) → ltb (collecting / c .rules .limit) (c .watch .n) ≡ b
+            → ((collecting / c .rules .limit < c .watch .n) ↔ (collecting < c .watch .n * c .rules .limit))
+            → ltb collecting (c .watch .n * c .rules .limit) ≡ b
         go true t d = lt-ltb _ _ (d .0 (ltb-true _ _ t))
         go false t d =
-            let q : collecting < c .watch .n * c .limit → ⊥ =
-            λ l. omega (arith, d .1 l, ltb-false (collecting / c .limit) (c .watch .n) t) in
-            le-ltb collecting (c .watch .n * c .limit) (omega arith)
+            let q : collecting < c .watch .n * c .rules .limit → ⊥ =
+            λ l. omega (arith, d .1 l, ltb-false (collecting / c .rules .limit) (c .watch .n) t) in
+            le-ltb collecting (c .watch .n * c .rules .limit) (omega arith)
 
 -- what a state and memories that take the slot have
 pub record Ready (st : State) (packet collecting : ℕ) : Type 0 where
   pub due : st .frame .at < 120
   pub free : st .owed ≡ false
   pub packets : packetMemory ≤ packet
-  pub collects : st .config .watch .n * st .config .limit ≤ collecting
+  pub collects : st .config .watch .n * st .config .rules .limit ≤ collecting
 
 module _ (st : State) (packet collecting : ℕ) where
   pub refused-none-due : 120 ≤ st .frame .at → slotRefusal st packet collecting ≡ 20
@@ -142,7 +142,7 @@ module _ (st : State) (packet collecting : ℕ) where
       let p = passed (leb 120 (st .frame .at)) 20 _ (λ z. omega arith) e in
       let q = passed (st .owed) 21 _ (λ z. omega arith) (p .1) in
       let r = passed (shortBy c packet collecting) 22 0 (λ z. omega arith) (q .1) in
-      let s = neither (ltb packet packetMemory) (ltb collecting (c .watch .n * c .limit)) (r .0) in
+      let s = neither (ltb packet packetMemory) (ltb collecting (c .watch .n * c .rules .limit)) (r .0) in
       record {
         due = leb-false _ _ (p .0);
         free = q .0;

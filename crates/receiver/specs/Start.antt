@@ -57,11 +57,11 @@ unfoldable pub startRefusal : Config → ℕ
 startRefusal c =
     cond (ltb (c .watch .n) 1 || ltb 16 (c .watch .n)) 1
     (cond (twice (c .watch) (c .watch .n)) 2
-    (cond (ltb 4095 (c .cid)) 3 (cond (ltb (c .limit) 1 || ltb 1048576 (c .limit)) 4 0)))
+    (cond (ltb 4095 (c .cid)) 3 (cond (ltb (c .rules .limit) 1 || ltb 1048576 (c .rules .limit)) 4 0)))
 
 -- what comes back beside a refusal
 abbrev pub blankConfig : Config
-blankConfig = record { stream = 0; cid = 0; watch = record { ids = replicate 16 0; n = 0 }; limit = 0 }
+blankConfig = record { stream = 0; cid = 0; watch = record { ids = replicate 16 0; n = 0 }; rules = record { limit = 0 } }
 
 unfoldable pub startOf : Config → Called
 startOf c = cond (eqb (startRefusal c) 0) (accepted (freshState c)) (refused (startRefusal c) (freshState blankConfig))
@@ -133,8 +133,8 @@ pub record Starts (c : Config) : Type 0 where
   pub few : c .watch .n ≤ 16
   pub once : Distinct (c .watch .ids) (c .watch .n)
   pub cid : c .cid ≤ 4095
-  pub room : 1 ≤ c .limit
-  pub most : c .limit ≤ 1048576
+  pub room : 1 ≤ c .rules .limit
+  pub most : c .rules .limit ≤ 1048576
 
 pub starts : (c : Config) → startRefusal c ≡ 0 → Starts c
 unfolding startRefusal twice
@@ -143,9 +143,9 @@ starts c e =
     let p = passed (ltb n 1 || ltb 16 n) 1 _ (λ z. omega arith) e in
     let q = passed (twice (c .watch) n) 2 _ (λ z. omega arith) (p .1) in
     let r = passed (ltb 4095 (c .cid)) 3 _ (λ z. omega arith) (q .1) in
-    let s = passed (ltb (c .limit) 1 || ltb 1048576 (c .limit)) 4 0 (λ z. omega arith) (r .1) in
+    let s = passed (ltb (c .rules .limit) 1 || ltb 1048576 (c .rules .limit)) 4 0 (λ z. omega arith) (r .1) in
     let a = neither (ltb n 1) (ltb 16 n) (p .0) in
-    let b = neither (ltb (c .limit) 1) (ltb 1048576 (c .limit)) (s .0) in
+    let b = neither (ltb (c .rules .limit) 1) (ltb 1048576 (c .rules .limit)) (s .0) in
     let few : n ≤ 16 = ltb-false 16 n (a .1) in
     let m : min n 16 ≡ n = omega arith in
     record {
@@ -153,8 +153,8 @@ starts c e =
       few = few;
       once = distinct (c .watch .ids) n few (rw m at (q .0));
       cid = ltb-false 4095 (c .cid) (r .0);
-      room = ltb-false (c .limit) 1 (b .0);
-      most = ltb-false 1048576 (c .limit) (b .1);
+      room = ltb-false (c .rules .limit) 1 (b .0);
+      most = ltb-false 1048576 (c .rules .limit) (b .1);
     }
 
 pub accepts : (c : Config) → Starts c → startRefusal c ≡ 0

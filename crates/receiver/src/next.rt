@@ -45,7 +45,7 @@ fn come_to(st: State, held: Held, cursor: Cursor, queue: Queue, channels: [Chann
 
 // Reads on until there is an event, or nothing waits. What it changes is in locals; the rest goes from `st` to the answer.
 pub fn read_on(st: State, memory: &[u8], collecting: &mut [u8]) -> Answer
-    requires { ⌜ st .config .watch .n * st .config .limit ≤ length (now collecting) ⌝ }
+    requires { ⌜ st .config .watch .n * st .config .rules .limit ≤ length (now collecting) ⌝ }
     ensures { λ r. ⌜ (r, now (collecting .exit)) ≡ readAll st (now (memory .entry)) (now (collecting .entry)) ⌝ }
 {
     let config = st.config;
@@ -67,7 +67,7 @@ pub fn read_on(st: State, memory: &[u8], collecting: &mut [u8]) -> Answer
                 let arrived = arrive(config, memory, start, end);
                 let k = place(arrived);
                 let channel = channels[k];
-                let j = receive(arrived, channel, queue, memory, collecting, config.limit);
+                let j = receive(arrived, channel, queue, memory, collecting, config.rules);
                 queue = j.queue;
                 let after = j.channel;
                 channels[k] = after;

@@ -21,7 +21,8 @@ pub fn is_short(config: Config, packet: usize, collecting: usize) -> bool
     }
     let watch = config.watch;
     let n = watch.n;
-    let limit = config.limit;
+    let rules = config.rules;
+    let limit = rules.limit;
     if limit == 0 {
         return false;
     }

@@ -12,6 +12,7 @@ use mmtp::watch::Found;
 use mmtp::watch::Watch;
 use mmtp::watch::lookup;
 use reassembly::config::Config;
+use reassembly::config::Rules;
 
 // Whether an id stands twice among the first `n`, at most 16.
 fn has_twice(watch: Watch, n: usize) -> bool
@@ -49,7 +50,8 @@ fn refusal(config: Config) -> u8
     if 4095 < config.cid {
         return 3;
     }
-    let limit = config.limit;
+    let rules = config.rules;
+    let limit = rules.limit;
     if limit < 1 {
         return 4;
     }
@@ -109,7 +111,7 @@ pub fn start(config: Config) -> Called
         stream: 0,
         cid: 0,
         watch,
-        limit: 0,
+        rules: Rules { limit: 0 },
     };
     let state = fresh(blank);
     Called { refusal, state }

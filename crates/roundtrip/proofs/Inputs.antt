@@ -131,16 +131,16 @@ module _ {A : Type 0} (cfg : Config) where
 
   -- where nothing is noted, the account is what joining makes of them
   read-run : (es : List (Slot-event A)) (xs : List (List A × Input)) (r : Read) (f : ℕ → Lane (List A)) (a : List A) → Quiet r
-      → ((h : ℕ → Lane (List A)) → events cfg h es ≡ run (cfg .limit) h xs)
-      → afterRead cfg r f a .events ++ events cfg (afterRead cfg r f a .lanes) es ≡ run (cfg .limit) f (asInput r a ++ xs)
+      → ((h : ℕ → Lane (List A)) → events cfg h es ≡ run (cfg .rules) h xs)
+      → afterRead cfg r f a .events ++ events cfg (afterRead cfg r f a .lanes) es ≡ run (cfg .rules) f (asInput r a ++ xs)
   read-run es xs silent f a q ih = ih f
   read-run es xs (noted n id) f a q ih = absurd q
   read-run es xs (input x) f a q ih =
-      let s = step (cfg .limit) (f (x .place)) a x in
-      unfold run in ap (λ (l : List (Event (List A))). s .events ++ l) (ih (withLane (cfg .limit) f (x .place) (s .lane)))
+      let s = step (cfg .rules) (f (x .place)) a x in
+      unfold run in ap (λ (l : List (Event (List A))). s .events ++ l) (ih (withLane (cfg .rules) f (x .place) (s .lane)))
 
   pub events-run : (es : List (Slot-event A)) → Slot-clean es → AllQuiet cfg (map bytesIn (packets es)) → (f : ℕ → Lane (List A))
-      → events cfg f es ≡ run (cfg .limit) f (counted cfg es)
+      → events cfg f es ≡ run (cfg .rules) f (counted cfg es)
   unfolding events inputs
   events-run [] c q f = unfold run in refl
   events-run (slot-note n ∷ es) c q f = absurd c

@@ -99,7 +99,7 @@ module _ (cfg : Config) where
   -- the units come back, in order, with nothing else
   pub units-back : {A : Type 0} (sent us : List Parcel) (h : AllSendable cfg us) → Consecutive sent us → (f : ℕ → Lane A)
       → AllStand sent f → (xs : List (A × Input)) → map (λ (x : A × Input). x .1) xs ≡ allInputs us h
-      → map strip (run (cfg .limit) f xs) ≡ map (λ (u : Parcel). shown-unit (contentOf u)) us
+      → map strip (run (cfg .rules) f xs) ≡ map (λ (u : Parcel). shown-unit (contentOf u)) us
   unfolding allInputs
   units-back sent [] h c f s [] e = unfold run in refl
   units-back sent [] h c f s (x ∷ xs) e =
@@ -108,10 +108,10 @@ module _ (cfg : Config) where
   units-back {A} sent (u ∷ us) h c f s xs e =
       let k : ℕ = h .0 .place in
       let p = split (λ (x : A × Input). x .1) (inputs (u .unit) k (u .m) (u .bytes)) (allInputs us (h .1)) xs e in
-      let r = unit-rejoined A (cfg .limit) k (u .m) (u .unit) (u .bytes) f (p .front) (h .0 .packable .psns) (h .0 .joins)
+      let r = unit-rejoined A (cfg .rules) k (u .m) (u .unit) (u .bytes) f (p .front) (h .0 .packable .psns) (h .0 .joins)
       (ready sent u (f k .channel) (c .0) (s (u .unit .«packet_id») k (h .0 .watched))) (p .front-is) in
-      let g : ℕ → Lane A = lanesAfter (cfg .limit) f (p .front) in
+      let g : ℕ → Lane A = lanesAfter (cfg .rules) f (p .front) in
       let t = stand-on sent u f g k (h .0 .watched) (r .phase) (r .last) (r .others) s in
       let i = units-back (u ∷ sent) us (h .1) (c .1) g t (p .back) (p .back-is) in
-      rw (← p .whole, run-append A (cfg .limit) f (p .front) (p .back) .0, r .events)
+      rw (← p .whole, run-append A (cfg .rules) f (p .front) (p .back) .0, r .events)
       (ap (λ (l : List Shown). shown-unit (contentOf u) ∷ l) i)

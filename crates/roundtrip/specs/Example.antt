@@ -16,7 +16,7 @@ use Rattle.roundtrip.specs.RoundTrip.{runOf}
 
 -- R is 256; packet_id 20 is watched and not sent
 abbrev pub config : Config
-config = record { stream = 1; cid = 2; watch = record { ids = 17 ∷ 18 ∷ 19 ∷ 20 ∷ replicate 12 0; n = 4 }; limit = 256 }
+config = record { stream = 1; cid = 2; watch = record { ids = 17 ∷ 18 ∷ 19 ∷ 20 ∷ replicate 12 0; n = 4 }; rules = record { limit = 256 } }
 
 abbrev parcel : ℕ → ℕ → ℕ → ℕ → Fields → ℕ → List ℕ → Parcel
 parcel id kind psn mpu fields m bytes =

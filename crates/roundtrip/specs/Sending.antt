@@ -64,7 +64,7 @@ pub record Sendable (cfg : Config) (x : Parcel) : Type 0 where
   pub packable : Packable (x .unit)
   pub place : ℕ
   pub watched : lookupOf (cfg .watch) (x .unit .«packet_id») ≡ At place
-  pub joins : 1 < pieceCount x → length (x .bytes) ≤ cfg .limit
+  pub joins : 1 < pieceCount x → length (x .bytes) ≤ cfg .rules .limit
 
 abbrev pub AllSendable : Config → List Parcel → Type 0
 AllSendable cfg [] = Prim.Unit {0}

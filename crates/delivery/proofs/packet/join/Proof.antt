@@ -19,7 +19,7 @@ unit : (d : tie.After-first-unit) → let a = d .before .before .before .before 
 unit d = rw (d .first-unit .ensures, bytes (d .before .before))
 
 step : (d : tie.After-join) → let a = d .before .before .before .before .before .before .before .before .before .args in
-    d .join .result ≡ stepOf (a .ch) (a .l) (a .memory .now) (a .limit)
+    d .join .result ≡ stepOf (a .ch) (a .l) (a .memory .now) (a .rules)
 step d = rw (d .join .ensures, d .before .piece .ensures, unit (d .before .before))
 
 distance-requires : tie.Need-distance-requires
@@ -39,35 +39,35 @@ join-requires c κs = search needs
 
 mul-base : tie.Need-mul-base
 mul-base c =
-    let s = c .before .before .before .before .before .before .before .before .before .before in
+    let s = c .before .before .before .before .before .before .before .before .before .before .before in
     let a = s .args in
-    let h : a .l .packet .place * a .limit < 18446744073709551616 = omega (arith, s .pre) in
+    let h : a .l .packet .place * a .rules .limit < 18446744073709551616 = omega (arith, s .pre) in
     record { fits = h }
 
 collect-requires : tie.Need-collect-requires
 collect-requires c κs =
-    let j = c .before .before in
+    let j = c .before .before .before in
     let f = j .before .before in
     let s = f .before .before .before .before .before .before .before in
     let a = s .args in
     rw (step j, unit f, bytes (f .before .before))
-    (joined-room (a .ch) (a .l) (a .memory .now) (a .collecting .now) (a .limit) (s .pre))
+    (joined-room (a .ch) (a .l) (a .memory .now) (a .collecting .now) (a .rules) (s .pre))
 
 give-requires : tie.Need-give-requires
 give-requires c κs =
-    let j = c .before .before .before .before .before in
+    let j = c .before .before .before .before .before .before in
     let f = j .before .before in
     let s = f .before .before .before .before .before .before .before in
     let a = s .args in
     let p = a .memory .now in
     let k : a .l .start < 18446744073709551616 = omega (arith, s .good) in
-    let n : a .limit < 18446744073709551616 = omega (arith, s .good) in
+    let n : a .rules .limit < 18446744073709551616 = omega (arith, s .good) in
     let i = first-inside (bytesAt (a .l) p) (a .l .packet .payload) in
     let w : unitIn (a .l) p .start ≤ length (bytesAt (a .l) p) = omega (arith, i .ordered, i .within) in
     rw (step j, unit f) (
       i .ordered,
       part-reach _ (a .l .start) _ _ _ k (omega arith) w,
-      joined-reach (a .ch) (a .l) p (a .collecting .now) (a .limit) (s .pre) n,
+      joined-reach (a .ch) (a .l) p (a .collecting .now) (a .rules) (s .pre) n,
     )
 
 same-length : tie.Need-same-length
@@ -76,7 +76,7 @@ same-length c = search needs
 returns : tie.Need-returns
 unfolding joinedOf
 returns c =
-    let j = c .before .before .before .before .before .before .before in
+    let j = c .before .before .before .before .before .before .before .before in
     let f = j .before .before in
     rw (c .before .give .ensures, c .before .before .before .before .collect .ensures, step j, unit f, bytes (f .before .before))
 

@@ -62,7 +62,10 @@ returns-4 c =
     c .keep4 .ensures ∙ sym (extended-over _ _ _ _ agreed counted (omega arith))
 
 grow-requires : tie.Need-grow-requires
-grow-requires c κs = search needs
+grow-requires c κs =
+    let e = c .before .before .before .before in
+    let s = e .before .before .before .before .before .before .before in
+    omega (arith, s .good .1 .1 .0)
 
 returns-5 : tie.Need-returns-5
 returns-5 c =

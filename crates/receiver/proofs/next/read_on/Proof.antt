@@ -53,7 +53,7 @@ below d = rw (d .place .ensures) (arrived-below _ _ _ _ _ (sym (d .before .arriv
 
 -- it has room to collect
 fits : (d : tie.After-arrive Inv-loop μ-loop) → let l = front (packet-found d) in
-    Fits (d .arrive .result) (entry l .args .st .config .limit) (length (l .loop .collecting))
+    Fits (d .arrive .result) (entry l .args .st .config .rules) (length (l .loop .collecting))
 fits d =
     let l = front (packet-found d) in
     arrived-fits _ _ _ _ _ _ (sym (d .arrive .ensures)) (rw (l .loop .inv .1) (entry l .pre))

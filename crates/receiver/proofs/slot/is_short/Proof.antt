@@ -14,13 +14,13 @@ returns : tie.Need-returns
 returns c = sym (packet-short _ _ _ (c .if1 .taken))
 
 returns-2 : tie.Need-returns-2
-returns-2 c = sym (long-enough _ _ _ (c .before .before .if1 .left) (rw (c .if2 .taken, mul-zero) (omega arith)))
+returns-2 c = sym (long-enough _ _ _ (c .before .before .before .if1 .left) (rw (c .if2 .taken, mul-zero) (omega arith)))
 
 div-result : tie.Need-div-result
 div-result c = search needs
 
 returns-3 : tie.Need-returns-3
-returns-3 c = sym (short-by-quotient _ _ _ (c .before .before .if1 .left) (c .if2 .left))
+returns-3 c = sym (short-by-quotient _ _ _ (c .before .before .before .if1 .left) (c .if2 .left))
 
 pub is-short-spec : {M : Type 1} → statement M
 is-short-spec = tie.close (tie.spec add-if1 returns returns-2 div-result returns-3)

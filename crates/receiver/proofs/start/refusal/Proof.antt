@@ -28,7 +28,7 @@ returns-3 c =
 -- the tests of n and of the ids are passed
 past-ids : (d : tie.Else3)
     → let c = d .before .before .before .before .before .args .config in
-    startRefusal c ≡ cond (ltb 4095 (c .cid)) 3 (cond (ltb (c .limit) 1 || ltb 1048576 (c .limit)) 4 0)
+    startRefusal c ≡ cond (ltb 4095 (c .cid)) 3 (cond (ltb (c .rules .limit) 1 || ltb 1048576 (c .rules .limit)) 4 0)
 unfolding startRefusal
 past-ids d =
     let h = d .before .before in
@@ -38,16 +38,16 @@ returns-4 : tie.Need-returns-4
 returns-4 c = rw (past-ids (c .before .before), lt-ltb _ _ (c .if4 .taken))
 
 returns-5 : tie.Need-returns-5
-returns-5 c = rw (past-ids (c .before .before .before), le-ltb _ _ (c .before .if4 .left), lt-ltb _ _ (c .if5 .taken))
+returns-5 c = rw (past-ids (c .before .before .before .before), le-ltb _ _ (c .before .before .if4 .left), lt-ltb _ _ (c .if5 .taken))
 
 returns-6 : tie.Need-returns-6
 returns-6 c =
-    let d = c .before .before in
+    let d = c .before .before .before in
     rw (past-ids (d .before .before), le-ltb _ _ (d .if4 .left), le-ltb _ _ (c .before .if5 .left), lt-ltb _ _ (c .if6 .taken))
 
 returns-7 : tie.Need-returns-7
 returns-7 c =
-    let d = c .before .before in
+    let d = c .before .before .before in
     rw (past-ids (d .before .before), le-ltb _ _ (d .if4 .left), le-ltb _ _ (c .before .if5 .left), le-ltb _ _ (c .if6 .left))
 
 pub refusal-spec : {M : Type 1} → statement M
