@@ -77,7 +77,7 @@ fn whole_size(b: &[u8]) -> usize
     if n == 0 {
         return 1;
     }
-    if b.len() < n {
+    if n > b.len() {
         return 0;
     }
     n

@@ -162,6 +162,16 @@ module _ (cur : Cursor) (p : List ℕ) where
   unfolding slotAdvanced
   slot-tail h = rw h
 
+-- the tail
+module _ (s : List ℕ) (at end : ℕ) where
+  pub tail-long : tooLong (drop at s) ≡ true → tailAdvanced s at end ≡ record { found = Event (Note (numberOf TooLong) 0); cursor = noted 0 }
+  unfolding tailAdvanced
+  tail-long h = rw h
+
+  pub tail-held : tooLong (drop at s) ≡ false → tailAdvanced s at end ≡ record { found = Tail at (end - at); cursor = noted 0 }
+  unfolding tailAdvanced
+  tail-held h = rw h
+
 -- next reads on from what was found
 abbrev pub goesOn : Found → Bool
 goesOn (Event e) = false
