@@ -11,7 +11,8 @@ use borrow.Author.Tests.{eqb-true, eqb-false, ltb-true, ltb-false}
 use Rattle.wire.specs.Choice.{either}
 use Rattle.tmcc.specs.declared.block.Decoded.{Decoded}
 use Rattle.tmcc.specs.declared.layout.Pointers.{Pointers}
-use Rattle.tmcc.specs.Count.{allBelow, countBelow, getD-tab, length-tab}
+use Rattle.wire.specs.Tab.{getD-tab, length-tab}
+use Rattle.tmcc.specs.Count.{allBelow, countBelow}
 use Rattle.tmcc.specs.Mode.{slotCount, slotsOf, slots-one, modeGood, modesGood, modeFrom, modeOf, slotLength}
 use Rattle.tmcc.specs.Stream.{chosen, ownSlot}
 use Rattle.tmcc.specs.Layout.{layoutOf, pointersAt}

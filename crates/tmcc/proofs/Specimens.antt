@@ -1,7 +1,8 @@
 -- Why the specimens and the examples hold: each is computed.
 use mathlib.Core.Path.{refl}
 use Rattle.wire.specs.Field.{be}
-use Rattle.tmcc.specs.Count.{tab, allBelow, countBelow, lastBelow}
+use Rattle.wire.specs.Tab.{tab}
+use Rattle.tmcc.specs.Count.{allBelow, countBelow, lastBelow}
 use Rattle.tmcc.specs.Mode.{dataBytes, within, used, unused, modeGood, slotsOf, modesGood, modeFrom, modeOf, slotLength}
 use Rattle.tmcc.specs.Stream.{chosen, relativeStream, ownSlot}
 use Rattle.tmcc.specs.Block.{decodeOf}

@@ -6,7 +6,7 @@ use lib.ListN.{replicate}
 use Rattle.wire.specs.Field.{be}
 use Rattle.tmcc.specs.declared.layout.Pointers.{Pointers}
 use Rattle.tmcc.specs.declared.layout.Layout.{Layout}
-use Rattle.tmcc.specs.Count.{tab}
+use Rattle.wire.specs.Tab.{tab}
 use Rattle.tmcc.specs.Mode.{slotLength}
 use Rattle.tmcc.specs.Stream.{ownSlot}
 

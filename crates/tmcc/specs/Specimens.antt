@@ -3,7 +3,7 @@ use Prim.Native.Nat.{ℕ}
 use mathlib.Core.Path.{_≡_}
 use mathlib.Core.List.{List, [], _∷_, _++_}
 use lib.ListN.{replicate}
-use Rattle.tmcc.specs.Count.{tab}
+use Rattle.wire.specs.Tab.{tab}
 use Rattle.tmcc.specs.Mode.{slotLength}
 use Rattle.tmcc.specs.Block.{decodeOf}
 

@@ -4,3 +4,5 @@ pub mod Choice
 pub mod Field
 pub mod Lists
 pub mod Memory
+pub mod Tab
+pub mod Words

@@ -9,29 +9,14 @@ use borrow.Author.Needs.{needs}
 use Rattle.tmcc.proofs.block.decode.Statement.{statement}
 use Rattle.tmcc.proofs.block.decode.Tie as tie
 
-refused-requires : tie.Need-refused-requires
-refused-requires c κs = search needs
-
 returns : tie.Need-returns
 returns c = c .refused .ensures ∙ sym (refused-length _ _ (c .before .if1 .taken))
-
-are-good-requires : tie.Need-are-good-requires
-are-good-requires c κs = search needs
-
-refused-requires-2 : tie.Need-refused-requires-2
-refused-requires-2 c κs = search needs
 
 returns-2 : tie.Need-returns-2
 returns-2 c =
     let d = c .before .before in
     let e = sym (d .are-good .ensures) ∙ not-true _ (c .before .if2 .taken) in
     c .refused2 .ensures ∙ sym (refused-modes _ _ (d .before .if1 .left) e)
-
-find-requires : tie.Need-find-requires
-find-requires c κs = search needs
-
-refused-requires-3 : tie.Need-refused-requires-3
-refused-requires-3 c κs = search needs
 
 good : (c : tie.Else2) → modesGood (now (c .before .before .before .before .args .block)) ≡ true
 good c = sym (c .before .are-good .ensures) ∙ not-false _ (c .if2 .left)
@@ -43,12 +28,6 @@ returns-3 c =
     c .refused3 .ensures
     ∙ sym (refused-streams _ _ (e .before .before .if1 .left) (good e) (rw (d .find .ensures) at (c .before .if3 .taken)))
 
-has-own-requires : tie.Need-has-own-requires
-has-own-requires c κs = search needs
-
-refused-requires-4 : tie.Need-refused-requires-4
-refused-requires-4 c κs = search needs
-
 returns-4 : tie.Need-returns-4
 returns-4 c =
     let o = c .before .before in
@@ -59,9 +38,6 @@ returns-4 c =
     ∙ sym
     (refused-own _ _ (e .before .before .if1 .left) (good e) (rw n at (o .before .if3 .left))
     (eqb-true _ _ (rw n at (sym (o .has-own .ensures) ∙ c .before .if4 .taken))))
-
-of-block-requires : tie.Need-of-block-requires
-of-block-requires c κs = search needs
 
 returns-5 : tie.Need-returns-5
 returns-5 c =
@@ -83,16 +59,16 @@ pub decode-spec : {M : Type 1} → statement M
 decode-spec =
     tie.close
     (tie.spec
-    refused-requires
+    (λ c κs. search needs)
     returns
-    are-good-requires
-    refused-requires-2
+    (λ c κs. search needs)
+    (λ c κs. search needs)
     returns-2
-    find-requires
-    refused-requires-3
+    (λ c κs. search needs)
+    (λ c κs. search needs)
     returns-3
-    has-own-requires
-    refused-requires-4
+    (λ c κs. search needs)
+    (λ c κs. search needs)
     returns-4
-    of-block-requires
+    (λ c κs. search needs)
     returns-5)

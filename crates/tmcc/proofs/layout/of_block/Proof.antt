@@ -3,7 +3,7 @@ use Prim.Native.Nat.{_-_, _≤_}
 use mathlib.Core.Path.{_≡_, refl}
 use native.Mathlib.Omega.{arith}
 use lib.ListN.{length, take, length-set}
-use Rattle.tmcc.specs.Count.{tab, tab-turn, tab-filled}
+use Rattle.wire.specs.Tab.{tab, tab-turn, tab-filled}
 use Rattle.tmcc.specs.Mode.{slotLength}
 use Rattle.tmcc.specs.Stream.{ownSlot}
 use Rattle.tmcc.specs.Layout.{pointersAt, layoutOf}
@@ -26,33 +26,12 @@ loop-holds c = (omega arith, refl, refl, refl, refl, refl, refl)
 pointers-at-requires : tie.Need-pointers-at-requires Inv-loop μ-loop
 pointers-at-requires c κs = (omega arith, c .before .before .before .pre)
 
-mul-pointers : tie.Need-mul-pointers Inv-loop μ-loop
-mul-pointers c = omega arith
-
-array-set-from-pointers : tie.Need-array-set-from-pointers Inv-loop μ-loop
-array-set-from-pointers c = omega arith
-
 slot-length-requires : tie.Need-slot-length-requires Inv-loop μ-loop
 slot-length-requires c κs = c .before .before .before .before .pre
-
-mul-lengths : tie.Need-mul-lengths Inv-loop μ-loop
-mul-lengths c = omega arith
-
-array-write-lengths : tie.Need-array-write-lengths Inv-loop μ-loop
-array-write-lengths c = omega arith
 
 is-own-live-requires : tie.Need-is-own-live-requires Inv-loop μ-loop
 is-own-live-requires c κs =
     (c .before .before .loop-test .taken, c .before .before .before .before .before .pre, c .slot-length .ensures)
-
-array-write-owns : tie.Need-array-write-owns Inv-loop μ-loop
-array-write-owns c = omega arith
-
-add-s : tie.Need-add-s Inv-loop μ-loop
-add-s c = omega arith
-
-loop-less : tie.Need-loop-less Inv-loop μ-loop
-loop-less c = omega arith
 
 loop-again : tie.Need-loop-again Inv-loop μ-loop
 loop-again c =
@@ -85,14 +64,14 @@ of-block-spec =
     μ-loop
     loop-holds
     pointers-at-requires
-    mul-pointers
-    array-set-from-pointers
+    (λ c. omega arith)
+    (λ c. omega arith)
     slot-length-requires
-    mul-lengths
-    array-write-lengths
+    (λ c. omega arith)
+    (λ c. omega arith)
     is-own-live-requires
-    array-write-owns
-    add-s
-    loop-less
+    (λ c. omega arith)
+    (λ c. omega arith)
+    (λ c. omega arith)
     loop-again
     returns)

@@ -26,26 +26,11 @@ returns : tie.Need-returns Inv-loop μ-loop
 returns c =
     sym (modes-bad _ _ (c .before .before .loop-test .taken) (sym (c .before .is-good .ensures) ∙ not-true _ (c .if1 .taken)))
 
-mul-slots : tie.Need-mul-slots Inv-loop μ-loop
-mul-slots c = omega arith
-
-add-slots : tie.Need-add-slots Inv-loop μ-loop
-add-slots c = omega arith
-
-shared-slice-read-slots : tie.Need-shared-slice-read-slots Inv-loop μ-loop
-shared-slice-read-slots c = omega arith
-
 cast-slots : tie.Need-cast-slots Inv-loop μ-loop
 cast-slots c = omega (arith, c .shared-slice-known2 .given (2 + 3 * c .before .before .before .before .loop .k))
 
 add-slots-2 : tie.Need-add-slots-2 Inv-loop μ-loop
 add-slots-2 c = omega (arith, c .shared-slice-known2 .given (2 + 3 * c .before .before .before .before .loop .k))
-
-add-k : tie.Need-add-k Inv-loop μ-loop
-add-k c = omega arith
-
-loop-less : tie.Need-loop-less Inv-loop μ-loop
-loop-less c = omega arith
 
 loop-again : tie.Need-loop-again Inv-loop μ-loop
 loop-again c =
@@ -72,12 +57,12 @@ are-good-spec =
     loop-holds
     is-good-requires
     returns
-    mul-slots
-    add-slots
-    shared-slice-read-slots
+    (λ c. omega arith)
+    (λ c. omega arith)
+    (λ c. omega arith)
     cast-slots
     add-slots-2
-    add-k
-    loop-less
+    (λ c. omega arith)
+    (λ c. omega arith)
     loop-again
     returns-2)

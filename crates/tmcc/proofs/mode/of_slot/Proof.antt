@@ -16,15 +16,6 @@ loop-holds : tie.Need-loop-holds Inv-loop μ-loop
 unfolding modeOf
 loop-holds c = (omega arith, refl)
 
-mul-count : tie.Need-mul-count Inv-loop μ-loop
-mul-count c = omega arith
-
-add-count : tie.Need-add-count Inv-loop μ-loop
-add-count c = omega arith
-
-shared-slice-read-count : tie.Need-shared-slice-read-count Inv-loop μ-loop
-shared-slice-read-count c = omega arith
-
 cast-count : tie.Need-cast-count Inv-loop μ-loop
 cast-count c = omega (arith, c .shared-slice-known .given (2 + 3 * c .before .before .loop .k))
 
@@ -32,12 +23,6 @@ returns : tie.Need-returns Inv-loop μ-loop
 returns c =
     let l = c .before .before in
     (sym (mode-here _ 8 _ _ (l .loop-test .taken) (c .if1 .taken)) ∙ l .before .loop .inv .1, omega arith)
-
-add-k : tie.Need-add-k Inv-loop μ-loop
-add-k c = omega arith
-
-loop-less : tie.Need-loop-less Inv-loop μ-loop
-loop-less c = omega arith
 
 loop-again : tie.Need-loop-again Inv-loop μ-loop
 loop-again c =
@@ -58,12 +43,12 @@ of-slot-spec =
     Inv-loop
     μ-loop
     loop-holds
-    mul-count
-    add-count
-    shared-slice-read-count
+    (λ c. omega arith)
+    (λ c. omega arith)
+    (λ c. omega arith)
     cast-count
     returns
-    add-k
-    loop-less
+    (λ c. omega arith)
+    (λ c. omega arith)
     loop-again
     returns-2)

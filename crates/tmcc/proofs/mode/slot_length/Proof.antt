@@ -10,25 +10,10 @@ use borrow.Author.Needs.{needs}
 use Rattle.tmcc.proofs.mode.slot_length.Statement.{statement}
 use Rattle.tmcc.proofs.mode.slot_length.Tie as tie
 
-of-slot-requires : tie.Need-of-slot-requires
-of-slot-requires c κs = search needs
-
-mul-mode : tie.Need-mul-mode
-mul-mode c = search needs
-
-add-mode : tie.Need-add-mode
-add-mode c = search needs
-
-shared-slice-read-mode : tie.Need-shared-slice-read-mode
-shared-slice-read-mode c = search needs
-
 cast-if1 : tie.Need-cast-if1
 cast-if1 c =
     let mode = getD (c .before .before .before .args .block .now) (1 + 3 * c .before .of-slot .result) 0 in
     omega (arith, bits-shift mode 4 4)
-
-data-bytes-requires : tie.Need-data-bytes-requires
-data-bytes-requires c κs = search needs
 
 returns : tie.Need-returns
 returns c =
@@ -45,11 +30,11 @@ pub slot-length-spec : {M : Type 1} → statement M
 slot-length-spec =
     tie.close
     (tie.spec
-    of-slot-requires
-    mul-mode
-    add-mode
-    shared-slice-read-mode
+    (λ c κs. search needs)
+    (λ c. search needs)
+    (λ c. search needs)
+    (λ c. search needs)
     cast-if1
-    data-bytes-requires
+    (λ c κs. search needs)
     returns
     returns-2)

@@ -19,20 +19,8 @@ loop-holds : tie.Need-loop-holds Inv-loop μ-loop
 unfolding countBelow lastBelow
 loop-holds c = (omega arith, omega arith, refl, refl)
 
-cast-is-chosen : tie.Need-cast-is-chosen Inv-loop μ-loop
-cast-is-chosen c = omega arith
-
 is-chosen-requires : tie.Need-is-chosen-requires Inv-loop μ-loop
 is-chosen-requires c κs = (omega arith, c .before .before .before .pre)
-
-add-count : tie.Need-add-count Inv-loop μ-loop
-add-count c = omega arith
-
-add-r : tie.Need-add-r Inv-loop μ-loop
-add-r c = omega arith
-
-loop-less : tie.Need-loop-less Inv-loop μ-loop
-loop-less c = omega arith
 
 loop-again : tie.Need-loop-again Inv-loop μ-loop
 loop-again c =
@@ -60,10 +48,10 @@ find-spec =
     Inv-loop
     μ-loop
     loop-holds
-    cast-is-chosen
+    (λ c. omega arith)
     is-chosen-requires
-    add-count
-    add-r
-    loop-less
+    (λ c. omega arith)
+    (λ c. omega arith)
+    (λ c. omega arith)
     loop-again
     returns)

@@ -26,12 +26,6 @@ returns c =
     let d = c .before in
     sym (ne-eqb _ _ (count-below-true _ _ _ (d .before .loop-test .taken) (sym (d .is-own .ensures) ∙ c .if1 .taken)))
 
-add-s : tie.Need-add-s Inv-loop μ-loop
-add-s c = omega arith
-
-loop-less : tie.Need-loop-less Inv-loop μ-loop
-loop-less c = omega arith
-
 loop-again : tie.Need-loop-again Inv-loop μ-loop
 loop-again c =
     let d = c .before in
@@ -52,7 +46,7 @@ has-own-spec =
     loop-holds
     is-own-requires
     returns
-    add-s
-    loop-less
+    (λ c. omega arith)
+    (λ c. omega arith)
     loop-again
     returns-2)

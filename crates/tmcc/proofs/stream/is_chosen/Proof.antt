@@ -5,21 +5,6 @@ use borrow.Author.Needs.{needs}
 use Rattle.tmcc.proofs.stream.is_chosen.Statement.{statement}
 use Rattle.tmcc.proofs.stream.is_chosen.Tie as tie
 
-add-if1 : tie.Need-add-if1
-add-if1 c = search needs
-
-shared-slice-read-if1 : tie.Need-shared-slice-read-if1
-shared-slice-read-if1 c = search needs
-
-mul-read16 : tie.Need-mul-read16
-mul-read16 c = search needs
-
-add-read16 : tie.Need-add-read16
-add-read16 c = search needs
-
-read16-requires : tie.Need-read16-requires
-read16-requires c κs = search needs
-
 returns : tie.Need-returns
 unfolding chosen
 returns c = rw (eq-eqb _ _ (c .before .if1 .taken), c .read16 .ensures)
@@ -32,10 +17,10 @@ pub is-chosen-spec : {M : Type 1} → statement M
 is-chosen-spec =
     tie.close
     (tie.spec
-    add-if1
-    shared-slice-read-if1
-    mul-read16
-    add-read16
-    read16-requires
+    (λ c. search needs)
+    (λ c. search needs)
+    (λ c. search needs)
+    (λ c. search needs)
+    (λ c κs. search needs)
     returns
     returns-2)
