@@ -1,3 +1,4 @@
 -- The definitions of intake.
 pub mod Slot
 pub mod Examples
+pub mod Words

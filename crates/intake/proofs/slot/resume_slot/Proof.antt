@@ -31,24 +31,6 @@ goes-on c =
     let r = goes-on-room _ _ _ _ (sym (c .before .before .resume .ensures) ∙ c .enum-told .given .1) in
     (r .within, held-fits (a .held) (now (a .packet)) (now (a .bytes)) _ (omega (arith, s .pre .0)) r)
 
-held-len-requires : tie.Need-held-len-requires
-held-len-requires c κs = search needs
-
-resume-requires : tie.Need-resume-requires
-resume-requires c κs = search needs
-
-enum-known-c : tie.Need-enum-known-c
-enum-known-c c = search needs
-
-number-requires : tie.Need-number-requires
-number-requires c κs = search needs
-
-read-from-requires : tie.Need-read-from-requires
-read-from-requires c κs = search needs
-
-enum-known-c-2 : tie.Need-enum-known-c-2
-enum-known-c-2 c = search needs
-
 continue-packet-requires : tie.Need-continue-packet-requires
 continue-packet-requires c κs = ends (c .before)
 
@@ -69,18 +51,12 @@ extend-packet-requires c κs =
     let d = c .before .before .before .before in
     omega (arith, d .before .before .before .before .held-len .ensures, goes-on d .1)
 
-same-length : tie.Need-same-length
-same-length c = search needs
-
 returns : tie.Need-returns
 unfolding resumedAs resumedMem
 returns c =
     let d = c .before .before .before in
     let e = sym (d .before .before .resume .ensures) ∙ d .c .given .1 in
     rw (c .read-from .ensures, c .before .number .ensures) (sym (resumed _ _ _ _ _ e))
-
-same-length-2 : tie.Need-same-length-2
-same-length-2 c = search needs
 
 returns-2 : tie.Need-returns-2
 unfolding resumedMem
@@ -89,9 +65,6 @@ returns-2 c =
     let n = d .before .before .before .before .held-len .ensures in
     let e = sym (d .before .before .resume .ensures) ∙ d .c2 .given .1 in
     rw (c .end-packet .ensures, n, c .before .before .before .continue-packet .ensures) (sym (resumed _ _ _ _ _ e))
-
-same-length-3 : tie.Need-same-length-3
-same-length-3 c = search needs
 
 returns-3 : tie.Need-returns-3
 unfolding resumedAs resumedMem
@@ -105,20 +78,20 @@ pub resume-slot-spec : {M : Type 1} → statement M
 resume-slot-spec =
     tie.close
     (tie.spec
-    held-len-requires
-    resume-requires
-    enum-known-c
-    number-requires
-    read-from-requires
-    enum-known-c-2
+    (λ c κs. search needs)
+    (λ c κs. search needs)
+    (λ c. search needs)
+    (λ c κs. search needs)
+    (λ c κs. search needs)
+    (λ c. search needs)
     continue-packet-requires
     end-packet-requires
     enum-told
     continue-packet-requires-2
     extend-packet-requires
-    same-length
+    (λ c. search needs)
     returns
-    same-length-2
+    (λ c. search needs)
     returns-2
-    same-length-3
+    (λ c. search needs)
     returns-3)

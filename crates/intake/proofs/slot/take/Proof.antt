@@ -7,18 +7,6 @@ use borrow.Author.Needs.{needs}
 use Rattle.intake.proofs.slot.take.Statement.{statement}
 use Rattle.intake.proofs.slot.take.Tie as tie
 
-is-sound-requires : tie.Need-is-sound-requires
-is-sound-requires c κs = search needs
-
-copy-at-requires : tie.Need-copy-at-requires
-copy-at-requires c κs = search needs
-
-mark-unsound-requires : tie.Need-mark-unsound-requires
-mark-unsound-requires c κs = search needs
-
-same-length : tie.Need-same-length
-same-length c = search needs
-
 returns : tie.Need-returns
 unfolding copied
 returns c =
@@ -32,12 +20,6 @@ resume-slot-requires c κs =
     let p = d .before .before .before .before .pre in
     (p .0, p .1, sym (d .before .is-sound .ensures) ∙ not-false _ (d .if1 .left))
 
-copy-at-requires-2 : tie.Need-copy-at-requires-2
-copy-at-requires-2 c κs = search needs
-
-same-length-2 : tie.Need-same-length-2
-same-length-2 c = search needs
-
 returns-2 : tie.Need-returns-2
 unfolding copied
 returns-2 c =
@@ -47,15 +29,6 @@ returns-2 c =
     rw (c .before .before .copy-at2 .ensures)
     (ap (λ (q : IntakeOut). (q .0, copied (q .1) b)) (c .before .before .before .before .before .before .resume-slot .ensures)
     ∙ sym (taken-held _ _ _ _ s (d .if2 .taken)))
-
-copy-at-requires-3 : tie.Need-copy-at-requires-3
-copy-at-requires-3 c κs = search needs
-
-read-from-requires : tie.Need-read-from-requires
-read-from-requires c κs = search needs
-
-same-length-3 : tie.Need-same-length-3
-same-length-3 c = search needs
 
 returns-3 : tie.Need-returns-3
 unfolding copied
@@ -68,16 +41,16 @@ pub take-spec : {M : Type 1} → statement M
 take-spec =
     tie.close
     (tie.spec
-    is-sound-requires
-    copy-at-requires
-    mark-unsound-requires
-    same-length
+    (λ c κs. search needs)
+    (λ c κs. search needs)
+    (λ c κs. search needs)
+    (λ c. search needs)
     returns
     resume-slot-requires
-    copy-at-requires-2
-    same-length-2
+    (λ c κs. search needs)
+    (λ c. search needs)
     returns-2
-    copy-at-requires-3
-    read-from-requires
-    same-length-3
+    (λ c κs. search needs)
+    (λ c κs. search needs)
+    (λ c. search needs)
     returns-3)
