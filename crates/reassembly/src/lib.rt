@@ -4,3 +4,4 @@ pub mod config;
 pub mod join;
 pub mod note;
 pub mod unit;
+pub mod words;

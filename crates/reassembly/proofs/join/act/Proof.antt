@@ -7,33 +7,6 @@ use Rattle.reassembly.proofs.join.act.Tie as tie
 enum-told : tie.Need-enum-told
 enum-told c = search needs
 
-interruption-requires : tie.Need-interruption-requires
-interruption-requires c κs = search needs
-
-give-requires : tie.Need-give-requires
-give-requires c κs = search needs
-
-enum-told-2 : tie.Need-enum-told-2
-enum-told-2 c = search needs
-
-interruption-requires-2 : tie.Need-interruption-requires-2
-interruption-requires-2 c κs = search needs
-
-begin-requires : tie.Need-begin-requires
-begin-requires c κs = search needs
-
-enum-told-3 : tie.Need-enum-told-3
-enum-told-3 c = search needs
-
-follow-requires : tie.Need-follow-requires
-follow-requires c κs = search needs
-
-enum-told-4 : tie.Need-enum-told-4
-enum-told-4 c = search needs
-
-follow-requires-2 : tie.Need-follow-requires-2
-follow-requires-2 c κs = search needs
-
 returns : tie.Need-returns
 unfolding acted
 returns c = rw (c .give .ensures, c .before .interruption .ensures, c .before .before .enum-told .given .1)
@@ -55,15 +28,15 @@ act-spec =
     tie.close
     (tie.spec
     enum-told
-    interruption-requires
-    give-requires
-    enum-told-2
-    interruption-requires-2
-    begin-requires
-    enum-told-3
-    follow-requires
-    enum-told-4
-    follow-requires-2
+    (λ c κs. search needs)
+    (λ c κs. search needs)
+    (λ c. search needs)
+    (λ c κs. search needs)
+    (λ c κs. search needs)
+    (λ c. search needs)
+    (λ c κs. search needs)
+    (λ c. search needs)
+    (λ c κs. search needs)
     returns
     returns-2
     returns-3

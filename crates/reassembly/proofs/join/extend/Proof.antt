@@ -7,29 +7,11 @@ use borrow.Author.Needs.{needs}
 use Rattle.reassembly.proofs.join.extend.Statement.{statement}
 use Rattle.reassembly.proofs.join.extend.Tie as tie
 
-agree-requires : tie.Need-agree-requires
-agree-requires c κs = search needs
-
-number-requires : tie.Need-number-requires
-number-requires c κs = search needs
-
-keep-requires : tie.Need-keep-requires
-keep-requires c κs = search needs
-
 returns : tie.Need-returns
 returns c =
     let d = c .before .before in
     c .keep .ensures ∙ rw (c .before .number .ensures)
     (sym (extended-apart _ _ _ _ (sym (d .before .agree .ensures) ∙ not-true _ (d .if1 .taken))))
-
-counter-follows-requires : tie.Need-counter-follows-requires
-counter-follows-requires c κs = search needs
-
-number-requires-2 : tie.Need-number-requires-2
-number-requires-2 c κs = search needs
-
-keep-requires-2 : tie.Need-keep-requires-2
-keep-requires-2 c κs = search needs
 
 returns-2 : tie.Need-returns-2
 returns-2 c =
@@ -39,9 +21,6 @@ returns-2 c =
     (sym (extended-uncounted _ _ _ _ (sym (d .before .before .agree .ensures) ∙ not-false _ (d .before .if1 .left))
     (sym (d .counter-follows .ensures) ∙ not-true _ (e .if2 .taken))))
 
-keep-requires-3 : tie.Need-keep-requires-3
-keep-requires-3 c κs = search needs
-
 returns-3 : tie.Need-returns-3
 returns-3 c =
     let e = c .before .before .before in
@@ -49,9 +28,6 @@ returns-3 c =
     let agreed = sym (d .before .before .agree .ensures) ∙ not-false _ (d .before .if1 .left) in
     let counted = sym (d .counter-follows .ensures) ∙ not-false _ (e .if2 .left) in
     c .keep3 .ensures ∙ sym (extended-over _ _ _ _ agreed counted (omega arith))
-
-keep-requires-4 : tie.Need-keep-requires-4
-keep-requires-4 c κs = search needs
 
 returns-4 : tie.Need-returns-4
 returns-4 c =
@@ -79,17 +55,17 @@ pub extend-spec : {M : Type 1} → statement M
 extend-spec =
     tie.close
     (tie.spec
-    agree-requires
-    number-requires
-    keep-requires
+    (λ c κs. search needs)
+    (λ c κs. search needs)
+    (λ c κs. search needs)
     returns
-    counter-follows-requires
-    number-requires-2
-    keep-requires-2
+    (λ c κs. search needs)
+    (λ c κs. search needs)
+    (λ c κs. search needs)
     returns-2
-    keep-requires-3
+    (λ c κs. search needs)
     returns-3
-    keep-requires-4
+    (λ c κs. search needs)
     returns-4
     grow-requires
     returns-5)

@@ -7,30 +7,6 @@ use Rattle.reassembly.proofs.join.follow.Tie as tie
 enum-told : tie.Need-enum-told
 enum-told c = search needs
 
-keep-requires : tie.Need-keep-requires
-keep-requires c κs = search needs
-
-enum-told-2 : tie.Need-enum-told-2
-enum-told-2 c = search needs
-
-keep-requires-2 : tie.Need-keep-requires-2
-keep-requires-2 c κs = search needs
-
-enum-told-3 : tie.Need-enum-told-3
-enum-told-3 c = search needs
-
-number-requires : tie.Need-number-requires
-number-requires c κs = search needs
-
-keep-requires-3 : tie.Need-keep-requires-3
-keep-requires-3 c κs = search needs
-
-enum-told-4 : tie.Need-enum-told-4
-enum-told-4 c = search needs
-
-extend-requires : tie.Need-extend-requires
-extend-requires c κs = search needs
-
 returns : tie.Need-returns
 unfolding followed
 returns c = rw (c .keep .ensures, c .before .enum-told .given .1)
@@ -52,14 +28,14 @@ follow-spec =
     tie.close
     (tie.spec
     enum-told
-    keep-requires
-    enum-told-2
-    keep-requires-2
-    enum-told-3
-    number-requires
-    keep-requires-3
-    enum-told-4
-    extend-requires
+    (λ c κs. search needs)
+    (λ c. search needs)
+    (λ c κs. search needs)
+    (λ c. search needs)
+    (λ c κs. search needs)
+    (λ c κs. search needs)
+    (λ c. search needs)
+    (λ c κs. search needs)
     returns
     returns-2
     returns-3
