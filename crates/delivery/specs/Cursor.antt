@@ -17,11 +17,10 @@ use Rattle.delivery.specs.declared.event.Event.{Event as AnEvent}
 use Rattle.delivery.specs.declared.event.Event.the-variants.{Nothing, Note, Unit, Refused}
 use Rattle.intake.specs.declared.held.Cursor.{Cursor}
 use Rattle.intake.specs.Slot.{noted}
-use Rattle.delivery.specs.declared.queue.Queue.{Queue}
+use Rattle.delivery.specs.Waiting.{Queue, Turn}
 use Rattle.delivery.specs.declared.cursor.Found.{Found}
 use Rattle.delivery.specs.declared.cursor.Found.the-variants.{Event, Packet, Tail, Done}
 use Rattle.delivery.specs.declared.cursor.Advanced.{Advanced}
-use Rattle.delivery.specs.declared.cursor.Turn.{Turn}
 use Rattle.delivery.specs.Queue.{eventTaken}
 use native.Mathlib.Omega.{arith}
 use Rattle.tlv.specs.Cuts.{complete-fits}

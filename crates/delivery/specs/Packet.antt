@@ -30,13 +30,10 @@ use Rattle.reassembly.specs.Unit.{carried}
 use Rattle.reassembly.specs.Join.{joinOf}
 use Rattle.delivery.specs.declared.event.Memory.the-variants.{Packet as PacketMemory, Collecting}
 use Rattle.delivery.specs.declared.event.Given.{Given}
-use Rattle.delivery.specs.declared.queue.Give.{Give}
-use Rattle.delivery.specs.declared.queue.Give.the-variants.{Nothing, One, Many}
-use Rattle.delivery.specs.declared.queue.Queue.{Queue}
+use Rattle.delivery.specs.Waiting.{Give, Nothing, One, Many, Queue, JoinedPacket}
 use Rattle.delivery.specs.declared.packet.Located.{Located}
 use Rattle.delivery.specs.declared.packet.Arrived.{Arrived}
 use Rattle.delivery.specs.declared.packet.Arrived.the-variants.{Silent, Noted, Good}
-use Rattle.delivery.specs.declared.packet.JoinedPacket.{JoinedPacket}
 
 -- an MMTP packet that stands from `start` to `end`
 abbrev pub readBy : Reading → ℕ → ℕ → Arrived

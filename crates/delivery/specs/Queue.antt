@@ -14,11 +14,7 @@ use Rattle.reassembly.specs.declared.note.JoinNote.the-variants.{AboveLimit}
 use Rattle.reassembly.specs.Notes.{numberOf}
 use Rattle.delivery.specs.declared.event.Event.the-variants.{Nothing, Note, Unit}
 use Rattle.delivery.specs.declared.event.Given.{Given}
-use Rattle.delivery.specs.declared.queue.Give.{Give}
-use Rattle.delivery.specs.declared.queue.Give.the-variants.{Nothing as NoUnit, One, Many}
-use Rattle.delivery.specs.declared.queue.Aggregate.{Aggregate}
-use Rattle.delivery.specs.declared.queue.Queue.{Queue}
-use Rattle.delivery.specs.declared.queue.Taken.{Taken}
+use Rattle.delivery.specs.Waiting.{Give, Nothing as NoUnit, One, Many, Aggregate, Queue, Taken}
 use Rattle.delivery.specs.Packet.{wholeGiven}
 
 abbrev pub empty : Queue

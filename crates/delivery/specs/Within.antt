@@ -48,7 +48,7 @@ use Rattle.reassembly.specs.Join.{
   counterFollows,
 }
 use Rattle.delivery.specs.Choice.{by-test}
-use Rattle.delivery.specs.declared.queue.Queue.{Queue}
+use Rattle.delivery.specs.Waiting.{Queue}
 use Rattle.delivery.specs.declared.packet.Located.{Located}
 use Rattle.delivery.specs.declared.packet.Arrived.{Arrived}
 use Rattle.delivery.specs.declared.packet.Arrived.the-variants.{Silent, Noted, Good}

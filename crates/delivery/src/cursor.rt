@@ -2,10 +2,8 @@
 ghost use mathlib.Core.Path.{_≡_};
 ghost use lib.ListN.{drop};
 ghost use Rattle.tlv.specs.Packet.{tooLong};
-ghost use Rattle.delivery.specs.Cursor.{tailAdvanced, slotAdvanced, advancedOf, isEvent, turnOf};
+ghost use Rattle.delivery.specs.Cursor.{tailAdvanced, slotAdvanced, advancedOf, isEvent};
 use crate::event::Event;
-use crate::queue::Queue;
-use crate::queue::take;
 use intake::held::Cursor;
 use tlv::note::SlotNote;
 use tlv::note::number;
@@ -13,7 +11,7 @@ use tlv::packet::Next;
 
 // What next comes to.
 pub enum Found {
-    // What a packet has yet to give, or a note of the slot.
+    // A note of the slot.
     Event(Event),
     // A TLV packet, from where to where in packet memory.
     Packet(usize, usize),
@@ -25,13 +23,6 @@ pub enum Found {
 // What the cursor comes to, and the cursor past it.
 pub struct Advanced {
     pub found: Found,
-    pub cursor: Cursor,
-}
-
-// What next comes to, and the queue and the cursor past it.
-pub struct Turn {
-    pub found: Found,
-    pub queue: Queue,
     pub cursor: Cursor,
 }
 
@@ -89,7 +80,7 @@ fn advance_slot(c: Cursor, memory: &[u8]) -> Advanced
     }
 }
 
-fn advance(c: Cursor, memory: &[u8]) -> Advanced
+pub fn advance(c: Cursor, memory: &[u8]) -> Advanced
     ensures { λ r. ⌜ r ≡ advancedOf c (now (memory .entry)) ⌝ }
 {
     if c.note != 0 {
@@ -115,7 +106,7 @@ fn advance(c: Cursor, memory: &[u8]) -> Advanced
     }
 }
 
-fn is_event(event: Event) -> bool
+pub fn is_event(event: Event) -> bool
     ensures { λ r. ⌜ r ≡ isEvent event ⌝ }
 {
     match event {
@@ -123,29 +114,5 @@ fn is_event(event: Event) -> bool
         Event::Note(_, _) => true,
         Event::Unit(_) => true,
         Event::Refused(_) => true,
-    }
-}
-
-// What the queue gives, or where it is empty what the cursor comes to.
-pub fn find(queue: Queue, cursor: Cursor, memory: &[u8]) -> Turn
-    ensures { λ r. ⌜ r ≡ turnOf queue cursor (now (memory .entry)) ⌝ }
-{
-    let taken = take(queue, memory);
-    let event = taken.event;
-    let rest = taken.queue;
-    if is_event(event) {
-        return Turn {
-            found: Found::Event(event),
-            queue: rest,
-            cursor,
-        };
-    }
-    let advanced = advance(cursor, memory);
-    let found = advanced.found;
-    let past = advanced.cursor;
-    Turn {
-        found,
-        queue: rest,
-        cursor: past,
     }
 }

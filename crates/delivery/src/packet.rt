@@ -3,18 +3,21 @@ ghost use mathlib.Core.Path.{_≡_};
 ghost use Prim.Native.Nat.{_+_, _-_, _*_, _≤_, _<_};
 ghost use lib.ListN.{length};
 ghost use Rattle.delivery.specs.Packet.{readBy, arrivedAt, firstUnit, pieceFrom, Stored, stored, Room, Reach, collected};
-ghost use Rattle.delivery.specs.Packet.{wholeGiven, wholesOf, giveOf, joinedOf, placeOf, Fits, receivedOf};
+ghost use Rattle.delivery.specs.Packet.{wholeGiven, wholesOf, giveOf};
+ghost use Rattle.delivery.specs.Words.{GiveStored, Keeps, Joins, Receives};
 use crate::event::Given;
 use crate::event::Memory;
 use crate::event::Place;
-use crate::queue::Aggregate;
-use crate::queue::Give;
-use crate::queue::Queue;
+use crate::queue::put_many;
+use crate::queue::put_none;
+use crate::queue::put_notes;
+use crate::queue::put_one;
 use mmtp::flow::Flow;
 use mmtp::note::PacketNote;
 use mmtp::note::number;
 use mmtp::packet::Packet;
 use mmtp::packet::Reading;
+use mmtp::payload::Indicator;
 use mmtp::payload::Payload;
 use mmtp::unit::DataUnit;
 use mmtp::unit::Fields;
@@ -25,6 +28,10 @@ use reassembly::config::Rules;
 use reassembly::join::Action;
 use reassembly::join::Joined;
 use reassembly::join::Piece;
+use reassembly::words::CHANNEL_WORDS;
+use reassembly::words::load_channel;
+use reassembly::words::store_channel;
+use reassembly::words::store_heard;
 
 // An MMTP packet of a watched packet_id, and where it stands in packet memory.
 pub struct Located {
@@ -39,12 +46,6 @@ pub enum Arrived {
     // A note and its packet_id; 0 where it has none.
     Noted(PacketNote, u16),
     Good(Located),
-}
-
-// What joining a packet leaves: the state of its packet_id, and what next has yet to give.
-pub struct JoinedPacket {
-    pub channel: Channel,
-    pub queue: Queue,
 }
 
 // An MMTP packet that stands from `start` to `end` in packet memory, by its reading.
@@ -122,7 +123,7 @@ fn piece(packet: Packet, u: DataUnit) -> Piece
 }
 
 // A data unit's bytes come to stand in collecting memory from `at` on.
-fn store(collecting: &mut [u8], at: usize, m: &[u8], u: DataUnit)
+fn store_piece(collecting: &mut [u8], at: usize, m: &[u8], u: DataUnit)
     requires { ⌜ Stored (length (now collecting)) at (length (now m)) u ⌝ }
     ensures { λ _. ⌜ now (collecting .exit) ≡ stored (now (collecting .entry)) at (now (m .entry)) u ⌝ }
 {
@@ -139,8 +140,8 @@ fn collect(action: Action, collecting: &mut [u8], base: usize, m: &[u8], u: Data
     match action {
         Action::Nothing => {}
         Action::Whole => {}
-        Action::Store(at) => store(collecting, base + at, m, u),
-        Action::Complete(at) => store(collecting, base + at, m, u),
+        Action::Store(at) => store_piece(collecting, base + at, m, u),
+        Action::Complete(at) => store_piece(collecting, base + at, m, u),
     }
 }
 
@@ -161,15 +162,15 @@ pub fn whole(l: Located, u: DataUnit) -> Given
 }
 
 // The units that a packet gives.
-fn give(j: Joined, l: Located, base: usize, u: DataUnit) -> Give
-    requires { ⌜ (u .start ≤ u .end) × (l .start + u .start < 18446744073709551616) × Reach (j .action) u ⌝ }
-    ensures { λ r. ⌜ r ≡ giveOf (j .action) j l base u ⌝ }
+fn give(t: &mut [u64], i: usize, j: Joined, l: Located, base: usize, u: DataUnit)
+    requires { ⌜ (i + 17 ≤ length (now t)) × (u .start ≤ u .end) × (l .start + u .start < 18446744073709551616) × Reach (j .action) u ⌝ }
+    ensures { λ _. ⌜ GiveStored (now (t .entry)) (now (t .exit)) i (giveOf (j .action) j l base u) ⌝ }
 {
     let action = j.action;
     match action {
-        Action::Nothing => Give::Nothing,
-        Action::Whole => give_wholes(l, u),
-        Action::Store(_) => Give::Nothing,
+        Action::Nothing => put_none(t, i),
+        Action::Whole => give_wholes(t, i, l, u),
+        Action::Store(_) => put_none(t, i),
         Action::Complete(at) => {
             let channel = j.channel;
             let current = channel.current;
@@ -179,40 +180,57 @@ fn give(j: Joined, l: Located, base: usize, u: DataUnit) -> Give
                 start: base,
                 len: at + (u.end - u.start),
             };
-            Give::One(Given { unit, place })
+            put_one(t, i, Given { unit, place })
         }
     }
 }
 
 // The units of a packet FI 00.
-fn give_wholes(l: Located, u: DataUnit) -> Give
-    requires { ⌜ (u .start ≤ u .end) × (l .start + u .start < 18446744073709551616) ⌝ }
-    ensures { λ r. ⌜ r ≡ wholesOf (l .packet .payload .aggregated) l u ⌝ }
+fn give_wholes(t: &mut [u64], i: usize, l: Located, u: DataUnit)
+    requires { ⌜ (i + 17 ≤ length (now t)) × (u .start ≤ u .end) × (l .start + u .start < 18446744073709551616) ⌝ }
+    ensures { λ _. ⌜ GiveStored (now (t .entry)) (now (t .exit)) i (wholesOf (l .packet .payload .aggregated) l u) ⌝ }
 {
     let packet = l.packet;
     let payload = packet.payload;
     if payload.aggregated {
-        return Give::Many(Aggregate {
-            packet,
-            start: l.start,
-            end: l.end,
-            at: payload.start,
-        });
+        put_many(t, i, l, payload.start);
+        return;
     }
     let given = whole(l, u);
-    Give::One(given)
+    put_one(t, i, given);
+}
+
+// A joined packet's channel is stored; of a packet FI 00 the phase and the psn alone.
+fn keep(words: &mut [u64], i: usize, packet: Packet, ch: Channel)
+    requires { ⌜ i + 14 ≤ length (now words) ⌝ }
+    ensures { λ _. ⌜ Keeps (now (words .entry)) i (packet .payload .indicator) ch (now (words .exit)) ⌝ }
+{
+    let payload = packet.payload;
+    let indicator = payload.indicator;
+    let phase = ch.phase;
+    let last = ch.last;
+    match indicator {
+        Indicator::Whole => store_heard(words, i, phase, last),
+        Indicator::First => store_channel(words, i, ch),
+        Indicator::Middle => store_channel(words, i, ch),
+        Indicator::Last => store_channel(words, i, ch),
+    }
 }
 
 // A packet is joined to the state of its packet_id, which collects from its place × R.
-pub fn join(
-    ch: Channel,
+fn join(
+    t: &mut [u64],
+    i: usize,
+    k: usize,
     l: Located,
     memory: &[u8],
     collecting: &mut [u8],
     rules: Rules,
-) -> JoinedPacket
-    requires { ⌜ l .packet .place * rules .limit + rules .limit ≤ length (now collecting) ⌝ }
-    ensures { λ r. ⌜ (r, now (collecting .exit)) ≡ joinedOf ch l (now (memory .entry)) (now (collecting .entry)) rules ⌝ }
+)
+    requires { ⌜ (i + 17 ≤ k) × (k + 224 ≤ length (now t)) × (l .packet .place < 16)
+        × (l .packet .place * rules .limit + rules .limit ≤ length (now collecting)) ⌝ }
+    ensures { λ _. ⌜ Joins (now (t .entry)) i k l (now (memory .entry)) (now (collecting .entry)) rules
+        (now (t .exit)) (now (collecting .exit)) ⌝ }
 {
     let packet = l.packet;
     let start = l.start;
@@ -222,59 +240,40 @@ pub fn join(
     let payload = packet.payload;
     let u = first_unit(m, payload);
     let p = piece(packet, u);
+    let at = k + CHANNEL_WORDS * packet.place;
+    let ch = load_channel(t, at);
     let j = reassembly::join::join(ch, p, rules);
     let base = packet.place * rules.limit;
     let action = j.action;
     collect(action, collecting, base, m, u);
-    let units = give(j, l, base, u);
-    let queue = Queue {
-        note: j.note,
-        over: j.over,
-        packet_id: packet.packet_id,
-        give: units,
-    };
     let channel = j.channel;
-    JoinedPacket { channel, queue }
+    keep(t, at, packet, channel);
+    put_notes(t, i, j.note, j.over, packet.packet_id);
+    give(t, i, j, l, base, u);
 }
 
-// The place of the packet's packet_id in the watch list; 0 where there is no packet to join.
-pub fn place(arrived: Arrived) -> usize
-    ensures { λ r. ⌜ r ≡ placeOf arrived ⌝ }
-{
-    match arrived {
-        Arrived::Silent => 0,
-        Arrived::Noted(_, _) => 0,
-        Arrived::Good(l) => {
-            let packet = l.packet;
-            packet.place
-        }
-    }
-}
-
-// A packet comes to the state of its packet_id, and to an empty queue.
+// The TLV packet that stands from `start` to `end` comes to its packet_id, and to an empty queue.
 pub fn receive(
-    arrived: Arrived,
-    channel: Channel,
-    queue: Queue,
+    config: Config,
+    t: &mut [u64],
+    i: usize,
+    k: usize,
     memory: &[u8],
     collecting: &mut [u8],
-    rules: Rules,
-) -> JoinedPacket
-    requires { ⌜ Fits arrived rules (length (now collecting)) ⌝ }
-    ensures { λ r. ⌜ (r, now (collecting .exit))
-        ≡ receivedOf arrived channel queue (now (memory .entry)) (now (collecting .entry)) rules ⌝ }
+    start: usize,
+    end: usize,
+)
+    requires { ⌜ (i + 17 ≤ k) × (k + 224 ≤ length (now t)) × (config .watch .n * config .rules .limit ≤ length (now collecting)) ⌝ }
+    ensures { λ _. ⌜ Receives config (now (t .entry)) i k (now (memory .entry)) (now (collecting .entry)) start end
+        (now (t .exit)) (now (collecting .exit)) ⌝ }
 {
+    let arrived = arrive(config, memory, start, end);
     match arrived {
-        Arrived::Silent => JoinedPacket { channel, queue },
+        Arrived::Silent => {}
         Arrived::Noted(note, id) => {
-            let queue = Queue {
-                note: number(note),
-                over: false,
-                packet_id: id,
-                give: Give::Nothing,
-            };
-            JoinedPacket { channel, queue }
+            put_notes(t, i, number(note), false, id);
+            put_none(t, i)
         }
-        Arrived::Good(l) => join(channel, l, memory, collecting, rules),
+        Arrived::Good(l) => join(t, i, k, l, memory, collecting, config.rules),
     }
 }

@@ -4,20 +4,8 @@ use borrow.Author.Needs.{needs}
 use Rattle.delivery.proofs.cursor.advance_slot.Statement.{statement}
 use Rattle.delivery.proofs.cursor.advance_slot.Tie as tie
 
-part-requires : tie.Need-part-requires
-part-requires c κs = search needs
-
-packet-at-requires : tie.Need-packet-at-requires
-packet-at-requires c κs = search needs
-
-enum-known-next : tie.Need-enum-known-next
-enum-known-next c = search needs
-
 enum-told : tie.Need-enum-told
 enum-told c = search needs
-
-advance-tail-requires : tie.Need-advance-tail-requires
-advance-tail-requires c κs = search needs
 
 returns : tie.Need-returns
 unfolding slotAdvanced
@@ -35,10 +23,10 @@ pub advance-slot-spec : {M : Type 1} → statement M
 advance-slot-spec =
     tie.close
     (tie.spec
-    part-requires
-    packet-at-requires
-    enum-known-next
+    (λ c κs. search needs)
+    (λ c κs. search needs)
+    (λ c. search needs)
     enum-told
-    advance-tail-requires
+    (λ c κs. search needs)
     returns
     returns-2)

@@ -1,5 +1,5 @@
 -- Why `arrive` meets its contract: by the packet's flow.
-use lib.ListN.{length, drop}
+use lib.ListN.{length}
 use Prim.Native.Nat.{_<_, _≤_, _-_}
 use native.Mathlib.Omega.{arith}
 use Rattle.delivery.specs.Within.{part-within}
@@ -21,23 +21,8 @@ flows : (d : tie.After-find) → let a = d .before .before .before .before .args
     flowOf (partOf (a .memory .now) (a .start) (a .end - a .start)) (a .config .cid) ≡ d .find .result
 flows d = rw (d .find .ensures, d .before .part .ensures, d .before .before .distance .ensures)
 
-distance-requires : tie.Need-distance-requires
-distance-requires c κs = search needs
-
-part-requires : tie.Need-part-requires
-part-requires c κs = search needs
-
-find-requires : tie.Need-find-requires
-find-requires c κs = search needs
-
 enum-told : tie.Need-enum-told
 enum-told c = search needs
-
-enum-known-flow : tie.Need-enum-known-flow
-enum-known-flow c = search needs
-
-enum-known-flow-2 : tie.Need-enum-known-flow-2
-enum-known-flow-2 c = search needs
 
 sub-read : tie.Need-sub-read
 sub-read c = inside (c .before .before) .1
@@ -46,12 +31,6 @@ part-read-start : tie.Need-part-read-start
 part-read-start c =
     let h = inside (c .before .before) in
     search needs
-
-part-read-end : tie.Need-part-read-end
-part-read-end c = search needs
-
-read-requires : tie.Need-read-requires
-read-requires c κs = search needs
 
 add-locate : tie.Need-add-locate
 add-locate c =
@@ -62,9 +41,6 @@ add-locate c =
     let w = part-within _ _ _ (rw (b .ensures) at z) in
     let v = rw (← b .ensures) at w in
     omega arith
-
-locate-requires : tie.Need-locate-requires
-locate-requires c κs = search needs
 
 returns : tie.Need-returns
 returns c = sym (arrived-silent _ _ _ _ (flows (c .before .before) ∙ c .enum-told .given .1))
@@ -86,18 +62,18 @@ pub arrive-spec : {M : Type 1} → statement M
 arrive-spec =
     tie.close
     (tie.spec
-    distance-requires
-    part-requires
-    find-requires
+    (λ c κs. search needs)
+    (λ c κs. search needs)
+    (λ c κs. search needs)
     enum-told
-    enum-known-flow
-    enum-known-flow-2
+    (λ c. search needs)
+    (λ c. search needs)
     sub-read
     part-read-start
-    part-read-end
-    read-requires
+    (λ c. search needs)
+    (λ c κs. search needs)
     add-locate
-    locate-requires
+    (λ c κs. search needs)
     returns
     returns-2
     returns-3)

@@ -7,30 +7,21 @@ use Rattle.delivery.proofs.packet.collect.Tie as tie
 enum-told : tie.Need-enum-told
 enum-told c = search needs
 
-enum-told-2 : tie.Need-enum-told-2
-enum-told-2 c = search needs
-
-enum-known-action : tie.Need-enum-known-action
-enum-known-action c = search needs
-
-add-store : tie.Need-add-store
-add-store c =
+add-store-piece : tie.Need-add-store-piece
+add-store-piece c =
     let h = rw (c .before .before .action .given .1) at (c .before .before .before .before .before .before .pre) in
     search needs
 
-store-requires : tie.Need-store-requires
-store-requires c κs = rw (c .before .before .action .given .1) at (c .before .before .before .before .before .before .pre)
+store-piece-requires : tie.Need-store-piece-requires
+store-piece-requires c κs = rw (c .before .before .action .given .1) at (c .before .before .before .before .before .before .pre)
 
-enum-known-action-2 : tie.Need-enum-known-action-2
-enum-known-action-2 c = search needs
-
-add-store-2 : tie.Need-add-store-2
-add-store-2 c =
+add-store-piece-2 : tie.Need-add-store-piece-2
+add-store-piece-2 c =
     let h = rw (c .before .before .action2 .given .1) at (c .before .before .before .before .before .before .pre) in
     search needs
 
-store-requires-2 : tie.Need-store-requires-2
-store-requires-2 c κs = rw (c .before .before .action2 .given .1) at (c .before .before .before .before .before .before .pre)
+store-piece-requires-2 : tie.Need-store-piece-requires-2
+store-piece-requires-2 c κs = rw (c .before .before .action2 .given .1) at (c .before .before .before .before .before .before .pre)
 
 returns : tie.Need-returns
 unfolding collected
@@ -40,35 +31,29 @@ returns-2 : tie.Need-returns-2
 unfolding collected
 returns-2 c = rw (c .enum-told2 .given .1)
 
-same-length : tie.Need-same-length
-same-length c = search needs
-
 returns-3 : tie.Need-returns-3
 unfolding collected
-returns-3 c = rw (c .before .before .before .before .before .action .given .1) (c .before .before .store .ensures)
-
-same-length-2 : tie.Need-same-length-2
-same-length-2 c = search needs
+returns-3 c = rw (c .before .before .before .before .before .action .given .1) (c .before .before .store-piece .ensures)
 
 returns-4 : tie.Need-returns-4
 unfolding collected
-returns-4 c = rw (c .before .before .before .before .before .action2 .given .1) (c .before .before .store2 .ensures)
+returns-4 c = rw (c .before .before .before .before .before .action2 .given .1) (c .before .before .store-piece2 .ensures)
 
 pub collect-spec : {M : Type 1} → statement M
 collect-spec =
     tie.close
     (tie.spec
     enum-told
-    enum-told-2
-    enum-known-action
-    add-store
-    store-requires
-    enum-known-action-2
-    add-store-2
-    store-requires-2
+    (λ c. search needs)
+    (λ c. search needs)
+    add-store-piece
+    store-piece-requires
+    (λ c. search needs)
+    add-store-piece-2
+    store-piece-requires-2
     returns
     returns-2
-    same-length
+    (λ c. search needs)
     returns-3
-    same-length-2
+    (λ c. search needs)
     returns-4)

@@ -8,17 +8,8 @@ returns : tie.Need-returns
 unfolding firstUnit
 returns c = rw (c .if1 .taken)
 
-single-at-requires : tie.Need-single-at-requires
-single-at-requires c κs = search needs
-
-enum-known-step : tie.Need-enum-known-step
-enum-known-step c = search needs
-
 enum-told : tie.Need-enum-told
 enum-told c = search needs
-
-enum-told-2 : tie.Need-enum-told-2
-enum-told-2 c = search needs
 
 returns-2 : tie.Need-returns-2
 unfolding firstUnit
@@ -43,10 +34,10 @@ first-unit-spec =
     tie.close
     (tie.spec
     returns
-    single-at-requires
-    enum-known-step
+    (λ c κs. search needs)
+    (λ c. search needs)
     enum-told
-    enum-told-2
+    (λ c. search needs)
     returns-2
     returns-3
     returns-4)

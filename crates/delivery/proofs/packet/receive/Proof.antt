@@ -1,5 +1,8 @@
--- Why `receive` meets its contract: case by case.
-use Rattle.delivery.specs.Packet.{receivedOf}
+-- Why receive meets its contract: silent, noted, or joined.
+use mathlib.Core.Path.{sym, _∙_}
+use Rattle.delivery.specs.declared.packet.Arrived.the-variants.{Good}
+use Rattle.delivery.specs.Within.{arrived-place, arrived-fits}
+use Rattle.delivery.specs.Joining.{receives-silent, receives-noted, receives-good}
 use borrow.Author.Needs.{needs}
 use Rattle.delivery.proofs.packet.receive.Statement.{statement}
 use Rattle.delivery.proofs.packet.receive.Tie as tie
@@ -7,43 +10,59 @@ use Rattle.delivery.proofs.packet.receive.Tie as tie
 enum-told : tie.Need-enum-told
 enum-told c = search needs
 
-enum-known-arrived : tie.Need-enum-known-arrived
-enum-known-arrived c = search needs
-
-number-requires : tie.Need-number-requires
-number-requires c κs = search needs
-
-enum-known-arrived-2 : tie.Need-enum-known-arrived-2
-enum-known-arrived-2 c = search needs
-
 join-requires : tie.Need-join-requires
-join-requires c κs = rw (c .before .before .arrived2 .given .1) at (c .before .before .before .before .before .before .pre)
+join-requires c κs =
+    let d = c .before .before .before .before .before in
+    let s = c .before .before .before .before .before .before .before .before .before in
+    let e = sym (d .arrive .ensures) ∙ c .before .before .before .arrived2 .given .1 in (
+      s .pre .0,
+      s .pre .1,
+      arrived-place (s .args .config) (s .args .memory .now) (s .args .start) (s .args .end) _ e .low,
+      arrived-fits (s .args .config) (s .args .memory .now) (s .args .start) (s .args .end) (Good _) _ e (s .pre .2),
+    )
 
 returns : tie.Need-returns
-unfolding receivedOf
-returns c = rw (c .enum-told .given .1)
+returns c =
+    let s = c .before .before .before .before .before .before in
+    let a = s .args in
+    receives-silent (a .config) (a .t .now) (a .i) (a .k) (a .memory .now) (a .collecting .now) (a .start) (a .end)
+    (sym (c .before .before .arrive .ensures) ∙ c .enum-told .given .1)
 
 returns-2 : tie.Need-returns-2
-unfolding receivedOf
-returns-2 c = rw (c .before .before .arrived .given .1, c .number .ensures)
-
-same-length : tie.Need-same-length
-same-length c = search needs
+returns-2 c =
+    let n = c .before .before .before .before .before .before in
+    let d = n .before .before .before .before in
+    let e = d .before .before in
+    let s = e .before .before .before .before in
+    let a = s .args in
+    receives-noted (a .config) (a .t .now) (a .i) (a .k) (a .memory .now) (a .collecting .now) (a .start) (a .end) _ _ _ _ (s .pre .0)
+    (sym (e .arrive .ensures) ∙ d .arrived .given .1) (rw (n .before .number .ensures) at (n .put-notes .ensures))
+    (c .before .before .put-none .ensures)
 
 returns-3 : tie.Need-returns-3
-unfolding receivedOf
-returns-3 c = rw (c .before .before .before .before .before .arrived2 .given .1) (c .before .before .join .ensures)
+returns-3 c =
+    let d = c .before .before .before .before .before .before .before .before in
+    let e = d .before .before in
+    let s = e .before .before .before .before in
+    let a = s .args in
+    receives-good (a .config) (a .t .now) (a .i) (a .k) (a .memory .now) (a .collecting .now) (a .start) (a .end) _ _ _
+    (sym (e .arrive .ensures) ∙ d .arrived2 .given .1) (c .before .before .before .before .join .ensures)
 
 pub receive-spec : {M : Type 1} → statement M
 receive-spec =
     tie.close
     (tie.spec
+    (λ c κs. search needs)
     enum-told
-    enum-known-arrived
-    number-requires
-    enum-known-arrived-2
+    (λ c. search needs)
+    (λ c κs. search needs)
+    (λ c κs. search needs)
+    (λ c κs. search needs)
+    (λ c. search needs)
     join-requires
     returns
+    (λ c. search needs)
     returns-2
-    same-length
+    (λ c. search needs)
+    (λ c. search needs)
     returns-3)

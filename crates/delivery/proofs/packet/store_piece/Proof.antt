@@ -1,12 +1,12 @@
--- Why `store` meets its contract: the data unit's bytes are copied.
+-- Why `store_piece` meets its contract: the data unit's bytes are copied.
 use Rattle.delivery.specs.Within.{pasted-take}
 use lib.ListN.{length, drop, length-drop}
 use Prim.Native.Nat.{_-_, _≤_}
 use mathlib.Core.Path.{_∙_}
 use native.Mathlib.Omega.{arith}
 use borrow.Author.Needs.{needs}
-use Rattle.delivery.proofs.packet.store.Statement.{statement}
-use Rattle.delivery.proofs.packet.store.Tie as tie
+use Rattle.delivery.proofs.packet.store_piece.Statement.{statement}
+use Rattle.delivery.proofs.packet.store_piece.Tie as tie
 
 sub-copy-at : tie.Need-sub-copy-at
 sub-copy-at c = search needs
@@ -31,7 +31,7 @@ returns c =
     rw length-drop (omega (arith, d .pre .ordered, d .pre .within)) in
     c .before .before .copy-at .ensures ∙ pasted-take _ _ _ _ h
 
-pub store-spec : {M : Type 1} → statement M
-store-spec =
+pub store-piece-spec : {M : Type 1} → statement M
+store-piece-spec =
     tie.close
     (tie.spec sub-copy-at part-copy-at-start part-copy-at-end copy-at-requires same-length returns)
