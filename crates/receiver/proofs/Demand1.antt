@@ -17,10 +17,8 @@ use Rattle.delivery.specs.declared.event.Event.the-variants.{Nothing, Refused}
 use Rattle.delivery.specs.declared.event.Place.{Place}
 use Rattle.delivery.specs.Choice.{by-test}
 use Rattle.delivery.specs.Cursor.{left}
-use Rattle.receiver.specs.declared.state.State.{State}
-use Rattle.receiver.specs.declared.answer.Called.{Called}
-use Rattle.receiver.specs.State.{refused}
-use Rattle.receiver.specs.Start.{blankConfig, freshState, twice, startRefusal, startOf}
+use Rattle.receiver.specs.State.{State, Called, refused}
+use Rattle.receiver.specs.Start.{twice, startRefusal, startFrom}
 use Rattle.receiver.specs.Frame.{frameBusy, frameOf, lostFrameOf}
 use Rattle.receiver.specs.Slot.{
   SlotOut,
@@ -55,10 +53,10 @@ start-row c =
     (either (Row 1 4) (ltb 4095 (c .cid)) (λ z. (omega arith, omega arith))
     (either (Row 1 4) (ltb (c .rules .limit) 1 || ltb 1048576 (c .rules .limit)) (λ z. (omega arith, omega arith)) (λ z. absurd (z refl)))))
 
-start-kept : (c : Config) → Keeps 1 4 (freshState blankConfig) (startOf c)
-unfolding startOf
-start-kept c =
-    either (Keeps 1 4 (freshState blankConfig)) (eqb (startRefusal c) 0) (λ z. absurd (z refl))
+start-kept : (st : State) (c : Config) → Keeps 1 4 st (startFrom st c)
+unfolding startFrom
+start-kept st c =
+    either (Keeps 1 4 st) (eqb (startRefusal c) 0) (λ z. absurd (z refl))
     (λ z. record { number = start-row c z; state = refl })
 
 slot-row : (st : State) (packet collecting : ℕ) → Row 20 22 (slotRefusal st packet collecting)

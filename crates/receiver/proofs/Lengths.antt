@@ -20,11 +20,7 @@ use Rattle.reassembly.specs.Channel.{unheard}
 use Rattle.delivery.specs.declared.event.Event.{Event as NextEvent}
 use Rattle.delivery.specs.declared.event.Event.the-variants.{Nothing, Note, Unit, Refused}
 use Rattle.delivery.specs.declared.event.Given.{Given}
-use Rattle.delivery.specs.declared.queue.Give.{Give}
-use Rattle.delivery.specs.declared.queue.Give.the-variants.{Nothing as NoUnit, One, Many}
-use Rattle.delivery.specs.declared.queue.Aggregate.{Aggregate}
-use Rattle.delivery.specs.declared.queue.Queue.{Queue}
-use Rattle.delivery.specs.declared.queue.Taken.{Taken}
+use Rattle.delivery.specs.Waiting.{Give, Nothing as NoUnit, One, Many, Aggregate, Queue, Taken}
 use Rattle.delivery.specs.declared.packet.Located.{Located}
 use Rattle.delivery.specs.declared.packet.Arrived.{Arrived}
 use Rattle.delivery.specs.declared.packet.Arrived.the-variants.{Silent, Noted, Good}
@@ -41,8 +37,7 @@ use Rattle.tlv.specs.Packet.{packetAt, tooLong}
 use Rattle.intake.specs.declared.held.Cursor.{Cursor}
 use Rattle.delivery.specs.Cursor.{turnOf, left, isEvent, advancedBy, slotAdvanced, tailAdvanced, advancedOf, turn-event, turn-on}
 use Rattle.intake.specs.Slot.{holding}
-use Rattle.receiver.specs.declared.state.State.{State}
-use Rattle.receiver.specs.State.{withSlot}
+use Rattle.receiver.specs.State.{State, withSlot}
 use Rattle.receiver.specs.Slot.{shortBy}
 use Rattle.receiver.specs.Show.{showOf}
 use Rattle.receiver.specs.Next.{NextOut, past, onwards, arrivedBy, packetOf, readOn, readAll, nextOf, next-short, next-idle}
@@ -112,8 +107,8 @@ module _ (q : Queue) (p c : List ℕ) (h : GiveLies (q .give) p c) where
 
 -- what a packet leaves to be given
 module _ (st : State) (p c : List ℕ) (h : GiveLies (st .queue .give) p c) (room : Ample st c) where
-  action-lies : (l : Located) → l .packet .place * st .config .rules .limit + st .config .rules .limit ≤ length c → (j : Joined) (a : Action)
-      → Below a (unitLen (unitIn l p)) (st .config .rules) → (c' : List ℕ) → length c' ≡ length c
+  action-lies : (l : Located) → l .packet .place * st .config .rules .limit + st .config .rules .limit ≤ length c
+      → (j : Joined) (a : Action) → Below a (unitLen (unitIn l p)) (st .config .rules) → (c' : List ℕ) → length c' ≡ length c
       → GiveLies (giveOf a j l (baseOf l (st .config .rules .limit)) (unitIn l p)) p c'
   unfolding giveOf showOf
   action-lies l r j NoAction b c' e = tt
@@ -167,7 +162,8 @@ turn-lies : (q : Queue) (cur : Cursor) (p c : List ℕ) → GiveLies (q .give) p
     → let t = turnOf q cur p in FoundLies (t .found) p c × GiveLies (t .queue .give) p c
 turn-lies q cur p c h = go (isEvent (eventTaken q p .event)) refl
   where
-    go : (b : Bool) → isEvent (eventTaken q p .event) ≡ b → let t = turnOf q cur p in FoundLies (t .found) p c × GiveLies (t .queue .give) p c
+    go : (b : Bool) → isEvent (eventTaken q p .event) ≡ b
+        → let t = turnOf q cur p in FoundLies (t .found) p c × GiveLies (t .queue .give) p c
     go true e = rw (turn-event q cur p e) (taken-lies q p c h)
     go false e = rw (turn-on q cur p e) (advanced-lies cur p c, taken-lies q p c h .1)
 

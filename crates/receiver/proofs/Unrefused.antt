@@ -15,17 +15,13 @@ use Rattle.mmtp.specs.Unit.{unitAt}
 use Rattle.intake.specs.declared.held.Cursor.{Cursor}
 use Rattle.delivery.specs.declared.event.Event.{Event}
 use Rattle.delivery.specs.declared.event.Event.the-variants.{Nothing, Note, Unit, Refused}
-use Rattle.delivery.specs.declared.queue.Aggregate.{Aggregate}
-use Rattle.delivery.specs.declared.queue.Give.{Give}
-use Rattle.delivery.specs.declared.queue.Give.the-variants.{Nothing as NoUnit, One, Many}
-use Rattle.delivery.specs.declared.queue.Queue.{Queue}
-use Rattle.delivery.specs.declared.queue.Taken.{Taken}
+use Rattle.delivery.specs.Waiting.{Aggregate, Give, Nothing as NoUnit, One, Many, Queue, Taken}
 use Rattle.delivery.specs.declared.cursor.Found.{Found}
 use Rattle.delivery.specs.declared.cursor.Found.the-variants.{Event as AnEvent, Packet, Tail, Done}
 use Rattle.delivery.specs.declared.cursor.Advanced.{Advanced}
 use Rattle.delivery.specs.Queue.{giveBy, manyBy, eventTaken}
 use Rattle.delivery.specs.Cursor.{tailAdvanced, advancedBy, slotAdvanced, advancedOf, turnBy, turnOf}
-use Rattle.receiver.specs.declared.state.State.{State}
+use Rattle.receiver.specs.State.{State}
 use Rattle.receiver.specs.Next.{NextOut, onwards, readOn, past}
 
 abbrev pub Unrefused : Event → Type 0

@@ -9,9 +9,8 @@ use lib.ListN.{length, take, drop}
 use Rattle.reassembly.specs.declared.config.Config.{Config}
 use Rattle.delivery.specs.declared.event.Event.the-variants.{Refused}
 use Rattle.delivery.specs.declared.event.Place.{Place}
-use Rattle.receiver.specs.declared.state.State.{State}
-use Rattle.receiver.specs.declared.answer.Called.{Called}
-use Rattle.receiver.specs.Start.{blankConfig, freshState, startOf}
+use Rattle.receiver.specs.State.{State, Called}
+use Rattle.receiver.specs.Start.{startFrom}
 use Rattle.receiver.specs.Frame.{frameOf, lostFrameOf}
 use Rattle.receiver.specs.Slot.{shortBy, slotOf, lostSlotOf}
 use Rattle.receiver.specs.Next.{nextOf}
@@ -26,8 +25,7 @@ pub record Kept (first last : ℕ) (st : State) (r : Called) : Type 0 where
   pub state : r .state ≡ st
 
 pub record Demand1 : Type 0 where
-  -- start is given no state: a fixed blank one stands beside the number
-  pub start : (c : Config) → IsRefused (startOf c) → Kept 1 4 (freshState blankConfig) (startOf c)
+  pub start : (st : State) (c : Config) → IsRefused (startFrom st c) → Kept 1 4 st (startFrom st c)
   pub frame : (st : State) (block : List ℕ) → IsRefused (frameOf st block) → Kept 10 14 st (frameOf st block)
   pub lost-frame : (st : State) → IsRefused (lostFrameOf st) → Kept 11 11 st (lostFrameOf st)
   -- slot may change packet memory, and next collecting memory; what else a call is lent it can only read

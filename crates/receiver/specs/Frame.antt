@@ -7,11 +7,9 @@ use borrow.Author.Tests.{lt-ltb, le-ltb, eq-eqb, ne-eqb, ltb-false}
 use lib.ListN.{length}
 use lib.Dec.{eqb, ltb}
 use Rattle.tmcc.specs.Block.{decodeOf}
-use Rattle.receiver.specs.declared.state.State.{State}
-use Rattle.receiver.specs.declared.answer.Called.{Called}
+use Rattle.receiver.specs.State.{State, Called, withFrame, withOwed, withIntake, refused, accepted}
 use Rattle.delivery.specs.Choice.{neither}
 use Rattle.intake.specs.Slot.{lostOf}
-use Rattle.receiver.specs.State.{withFrame, withOwed, withIntake, refused, accepted}
 
 -- slots are due, or next is owed
 unfoldable pub frameBusy : State → Bool

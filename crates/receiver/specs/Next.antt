@@ -11,17 +11,15 @@ use Rattle.reassembly.specs.declared.config.Config.{Config}
 use Rattle.reassembly.specs.Channel.{unheard}
 use Rattle.delivery.specs.declared.event.Event.{Event as AnEvent}
 use Rattle.delivery.specs.declared.event.Event.the-variants.{Nothing, Refused}
-use Rattle.receiver.specs.declared.answer.Answer.{Answer}
-use Rattle.receiver.specs.declared.state.State.{State}
+use Rattle.receiver.specs.State.{Answer, State, withOwed, withSlot, withQueue, withChannels}
 use Rattle.delivery.specs.declared.packet.Located.{Located}
 use Rattle.delivery.specs.declared.packet.Arrived.{Arrived}
 use Rattle.delivery.specs.declared.packet.Arrived.the-variants.{Silent, Noted, Good}
 use Rattle.mmtp.specs.declared.note.PacketNote.{PacketNote}
 use Rattle.delivery.specs.declared.cursor.Found.{Found}
 use Rattle.delivery.specs.declared.cursor.Found.the-variants.{Event, Packet, Tail, Done}
-use Rattle.delivery.specs.declared.cursor.Turn.{Turn}
+use Rattle.delivery.specs.Waiting.{Turn}
 use Rattle.intake.specs.Slot.{packetMemory, holding}
-use Rattle.receiver.specs.State.{withOwed, withSlot, withQueue, withChannels}
 use Rattle.receiver.specs.Slot.{shortBy}
 use Rattle.delivery.specs.Packet.{noteQueue, arrivedAt, joinedOf}
 use Rattle.delivery.specs.Cursor.{turnOf, left}

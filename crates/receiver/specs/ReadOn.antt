@@ -9,15 +9,13 @@ use lib.Seq.{set-getD}
 use Rattle.reassembly.specs.Channel.{unheard}
 use Rattle.delivery.specs.declared.event.Event.{Event as AnEvent}
 use Rattle.delivery.specs.declared.event.Event.the-variants.{Nothing}
-use Rattle.receiver.specs.declared.state.State.{State}
+use Rattle.receiver.specs.State.{State, withOwed, withSlot, withQueue, withChannels}
 use Rattle.delivery.specs.declared.packet.Arrived.{Arrived}
 use Rattle.delivery.specs.declared.packet.Arrived.the-variants.{Silent, Noted, Good}
-use Rattle.delivery.specs.declared.packet.JoinedPacket.{JoinedPacket}
+use Rattle.delivery.specs.Waiting.{JoinedPacket, Turn}
 use Rattle.delivery.specs.declared.cursor.Found.{Found}
 use Rattle.delivery.specs.declared.cursor.Found.the-variants.{Event, Packet, Tail, Done}
-use Rattle.delivery.specs.declared.cursor.Turn.{Turn}
 use Rattle.intake.specs.Slot.{holding}
-use Rattle.receiver.specs.State.{withOwed, withSlot, withQueue, withChannels}
 use Rattle.delivery.specs.Packet.{arrivedAt, placeOf, receivedOf}
 use Rattle.delivery.specs.Within.{arrived-fits, length-received}
 use Rattle.receiver.specs.Slot.{shortBy}

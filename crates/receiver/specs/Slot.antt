@@ -11,12 +11,10 @@ use lib.ListN.{length, getD}
 use lib.Dec.{eqb, ltb, leb}
 use Rattle.tmcc.specs.declared.layout.Pointers.{Pointers}
 use Rattle.reassembly.specs.declared.config.Config.{Config}
-use Rattle.receiver.specs.declared.state.State.{State}
-use Rattle.receiver.specs.declared.answer.Called.{Called}
+use Rattle.receiver.specs.State.{State, Called, withFrame, withOwed, withIntake, refused, accepted}
 use Rattle.receiver.specs.Tests.{passed}
 use Rattle.delivery.specs.Choice.{neither}
 use Rattle.intake.specs.Slot.{packetMemory, intakeOf}
-use Rattle.receiver.specs.State.{withFrame, withOwed, withIntake, refused, accepted}
 use Rattle.receiver.specs.Frame.{lossOf}
 
 -- "packet memory under 21,433 bytes or collecting memory under n × R", by their lengths

@@ -15,12 +15,10 @@ use Rattle.mmtp.specs.Watch.{lookupOf, Distinct, lookup-at, lookup-none}
 use Rattle.reassembly.specs.declared.config.Config.{Config}
 use Rattle.reassembly.specs.Channel.{unheard}
 use Rattle.tmcc.specs.Layout.{blankLayout}
-use Rattle.receiver.specs.declared.state.State.{State}
-use Rattle.receiver.specs.declared.answer.Called.{Called}
+use Rattle.receiver.specs.State.{State, Called, refused, accepted}
 use Rattle.receiver.specs.Tests.{passed}
 use Rattle.delivery.specs.Choice.{neither}
 use Rattle.intake.specs.Slot.{searching, noted}
-use Rattle.receiver.specs.State.{refused, accepted}
 use Rattle.delivery.specs.Queue.{empty}
 
 abbrev pub isAt : Found → Bool
@@ -63,17 +61,30 @@ startRefusal c =
 abbrev pub blankConfig : Config
 blankConfig = record { stream = 0; cid = 0; watch = record { ids = replicate 16 0; n = 0 }; rules = record { limit = 0 } }
 
-unfoldable pub startOf : Config → Called
-startOf c = cond (eqb (startRefusal c) 0) (accepted (freshState c)) (refused (startRefusal c) (freshState blankConfig))
+-- a start over what stands there: a refused one leaves it
+unfoldable pub startFrom : State → Config → Called
+startFrom st c = cond (eqb (startRefusal c) 0) (accepted (freshState c)) (refused (startRefusal c) st)
+
+-- a start where nothing stands
+abbrev pub startOf : Config → Called
+startOf c = startFrom (freshState blankConfig) c
 
 -- a receiver is started, or not
 pub started : (c : Config) → startRefusal c ≡ 0 → startOf c ≡ accepted (freshState c)
-unfolding startOf
+unfolding startFrom
 started c e = rw (eq-eqb _ _ e)
 
 pub not-started : (c : Config) → (startRefusal c ≡ 0 → ⊥) → startOf c ≡ refused (startRefusal c) (freshState blankConfig)
-unfolding startOf
+unfolding startFrom
 not-started c e = rw (ne-eqb _ _ e)
+
+pub start-fresh : (st : State) (c : Config) → startRefusal c ≡ 0 → startFrom st c ≡ accepted (freshState c)
+unfolding startFrom
+start-fresh st c e = rw (eq-eqb _ _ e)
+
+pub start-kept : (st : State) (c : Config) → (startRefusal c ≡ 0 → ⊥) → startFrom st c ≡ refused (startRefusal c) st
+unfolding startFrom
+start-kept st c e = rw (ne-eqb _ _ e)
 
 module _ (ids : List ℕ) where
   pub twice-zero : twiceBelow ids 0 ≡ false

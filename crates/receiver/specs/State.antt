@@ -1,15 +1,41 @@
--- Parts of the receiver's state, set.
+-- The receiver's state, as the definitions of the calls speak of it; what they answer; and parts of the state, set.
 use Prim.Native.Nat.{ℕ}
 use mathlib.Core.Bool.{Bool}
 use mathlib.Core.List.{List}
 use Rattle.reassembly.specs.declared.channel.Channel.{Channel}
-use Rattle.receiver.specs.declared.state.Frame.{Frame}
 use Rattle.intake.specs.declared.held.Held.{Held}
 use Rattle.intake.specs.declared.held.Cursor.{Cursor}
 use Rattle.intake.specs.declared.held.Intake.{Intake}
-use Rattle.delivery.specs.declared.queue.Queue.{Queue}
-use Rattle.receiver.specs.declared.state.State.{State}
-use Rattle.receiver.specs.declared.answer.Called.{Called}
+use Rattle.delivery.specs.Waiting.{Queue}
+use Rattle.delivery.specs.declared.event.Event.{Event}
+use Rattle.reassembly.specs.declared.config.Config.{Config}
+use Rattle.tmcc.specs.declared.layout.Layout.{Layout}
+
+-- the frame: its layout, and the next slot, counted from 0; 120 where none is due
+pub record Frame : Type 0 where
+  pub layout : Layout
+  pub at : ℕ
+
+pub record State : Type 0 where
+  pub config : Config
+  pub frame : Frame
+  -- whether next is owed
+  pub owed : Bool
+  pub held : Held
+  pub cursor : Cursor
+  pub queue : Queue
+  -- the states of the sixteen packet_ids
+  pub channels : List Channel
+
+-- what start, frame, lost frame and slot answer: 0 where the call is accepted, else the refusal's number; and the state after it
+pub record Called : Type 0 where
+  pub refusal : ℕ
+  pub state : State
+
+-- what next answers
+pub record Answer : Type 0 where
+  pub event : Event
+  pub state : State
 
 abbrev pub withFrame : State → Frame → State
 withFrame st f =

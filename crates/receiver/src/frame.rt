@@ -1,73 +1,88 @@
 // Frame and lost frame.
 ghost use mathlib.Core.Path.{_≡_};
+ghost use mathlib.Core.List.{[]};
+ghost use Prim.Native.Nat.{_≤_};
+ghost use lib.ListN.{length};
+ghost use Rattle.receiver.specs.State.{withIntake};
+ghost use Rattle.receiver.specs.Words.{stateWords, stateIn, Sets, Leaves};
 ghost use Rattle.receiver.specs.Frame.{frameBusy, lossOf, frameOf, lostFrameOf};
-use crate::answer::Called;
-use crate::state::Frame;
-use crate::state::State;
-use crate::state::settle;
+use crate::words::AT;
+use crate::words::CONFIG;
+use crate::words::CURSOR;
+use crate::words::HELD;
+use crate::words::OWED;
+use crate::words::STATE_WORDS;
+use crate::words::put_frame;
+use intake::held::Intake;
+use intake::words::load_held;
+use intake::words::store_cursor;
+use intake::words::store_held;
 
 // Whether slots are due or next is owed.
-fn is_busy(st: State) -> bool
-    ensures { λ r. ⌜ r ≡ frameBusy st ⌝ }
+fn is_busy(words: &[u64]) -> bool
+    requires { ⌜ stateWords ≤ length (now words) ⌝ }
+    ensures { λ r. ⌜ r ≡ frameBusy (stateIn (now (words .entry))) ⌝ }
 {
-    let frame = st.frame;
-    if frame.at < 120 {
+    if words[AT] < 120 {
         return true;
     }
-    st.owed
+    words[OWED] != 0
 }
 
 // The control block of a frame whose 120 slots follow.
-pub fn frame(st: State, block: &[u8]) -> Called
-    ensures { λ r. ⌜ r ≡ frameOf st (now (block .entry)) ⌝ }
+pub fn frame(words: &mut [u64], block: &[u8]) -> u8
+    ensures { λ r. ⌜ Leaves (now (words .entry)) [] r (now (words .exit)) [] (frameOf (stateIn (now (words .entry))) (now (block .entry)), []) ⌝ }
 {
+    if words.len() < STATE_WORDS {
+        return 90;
+    }
     if block.len() != tmcc::block::BLOCK_BYTES {
-        return Called {
-            refusal: 10,
-            state: st,
-        };
+        return 10;
     }
-    if is_busy(st) {
-        return Called {
-            refusal: 11,
-            state: st,
-        };
+    if is_busy(words) {
+        return 11;
     }
-    let config = st.config;
-    let decoded = tmcc::block::decode(block, config.stream);
+    let decoded = tmcc::block::decode(block, (words[CONFIG] % 65536) as u16);
     let refusal = decoded.refusal;
     if refusal != 0 {
-        return Called { refusal, state: st };
+        return refusal;
     }
     let layout = decoded.layout;
-    let next = Frame { layout, at: 0 };
-    let state = State { frame: next, ..st };
-    Called { refusal: 0, state }
+    put_frame(words, layout);
+    0
+}
+
+// What a slot leaves is in the words.
+pub(crate) fn settle(words: &mut [u64], taken: Intake)
+    requires { ⌜ stateWords ≤ length (now words) ⌝ }
+    ensures { λ _. ⌜ Sets (now (words .entry)) (now (words .exit)) (withIntake (stateIn (now (words .entry))) taken) ⌝ }
+{
+    let held = taken.held;
+    let cursor = taken.cursor;
+    store_held(words, HELD, held);
+    store_cursor(words, CURSOR, cursor);
 }
 
 // An own live slot is lost, and next is owed.
-pub(crate) fn after_loss(st: State) -> State
-    ensures { λ r. ⌜ r ≡ lossOf st ⌝ }
+pub(crate) fn lose(words: &mut [u64])
+    requires { ⌜ stateWords ≤ length (now words) ⌝ }
+    ensures { λ _. ⌜ Sets (now (words .entry)) (now (words .exit)) (lossOf (stateIn (now (words .entry)))) ⌝ }
 {
-    let held = st.held;
-    let lost = intake::slot::lose(held);
-    let next = settle(st, lost);
-    State { owed: true, ..next }
+    let lost = intake::slot::lose(load_held(words, HELD));
+    settle(words, lost);
+    words[OWED] = 1;
 }
 
 // A lost frame, read as one lost own live slot.
-pub fn lost_frame(st: State) -> Called
-    ensures { λ r. ⌜ r ≡ lostFrameOf st ⌝ }
+pub fn lost_frame(words: &mut [u64]) -> u8
+    ensures { λ r. ⌜ Leaves (now (words .entry)) [] r (now (words .exit)) [] (lostFrameOf (stateIn (now (words .entry))), []) ⌝ }
 {
-    if is_busy(st) {
-        return Called {
-            refusal: 11,
-            state: st,
-        };
+    if words.len() < STATE_WORDS {
+        return 90;
     }
-    let lost = after_loss(st);
-    Called {
-        refusal: 0,
-        state: lost,
+    if is_busy(words) {
+        return 11;
     }
+    lose(words);
+    0
 }

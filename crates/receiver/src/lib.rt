@@ -1,8 +1,7 @@
 // The receiver: start, frame, lost frame, slot, next and show.
-pub mod answer;
 pub mod frame;
 pub mod next;
 pub mod show;
 pub mod slot;
 pub mod start;
-pub mod state;
+pub mod words;

@@ -3,21 +3,28 @@ ghost use mathlib.Core.Path.{_≡_};
 ghost use Prim.Native.Nat.{_*_, _≤_};
 ghost use lib.ListN.{length};
 ghost use Rattle.intake.specs.Slot.{holding};
-ghost use Rattle.receiver.specs.State.{withSlot, withQueue, withChannels};
+ghost use Rattle.receiver.specs.Words.{stateWords, stateIn, Answers, Reads, Moves};
 ghost use Rattle.receiver.specs.Next.{readAll, nextOf};
-use crate::answer::Answer;
 use crate::slot::is_short;
-use crate::state::State;
+use crate::words::CHANNELS;
+use crate::words::CONFIG;
+use crate::words::CURSOR;
+use crate::words::HELD;
+use crate::words::OWED;
+use crate::words::QUEUE;
+use crate::words::STATE_WORDS;
 use delivery::cursor::Found;
-use delivery::cursor::find;
+use delivery::cursor::advance;
+use delivery::cursor::is_event;
 use delivery::event::Event;
-use delivery::packet::arrive;
-use delivery::packet::place;
 use delivery::packet::receive;
-use delivery::queue::Queue;
-use intake::held::Cursor;
+use delivery::queue::take;
 use intake::held::Held;
-use reassembly::channel::Channel;
+use intake::words::load_cursor;
+use intake::words::store_cursor;
+use intake::words::store_held;
+use reassembly::config::Config;
+use reassembly::words::load_config;
 
 // A tail is held.
 fn hold(start: usize, len: usize) -> Held
@@ -30,77 +37,65 @@ fn hold(start: usize, len: usize) -> Held
     }
 }
 
-// The state where reading on has come to.
-fn come_to(st: State, held: Held, cursor: Cursor, queue: Queue, channels: [Channel; 16]) -> State
-    ensures { λ r. ⌜ r ≡ withQueue (withChannels (withSlot st held cursor) channels) queue ⌝ }
+// What the cursor comes to; the cursor past it stands in the words.
+fn advance_in(words: &mut [u64], memory: &[u8]) -> Found
+    requires { ⌜ stateWords ≤ length (now words) ⌝ }
+    ensures { λ r. ⌜ Moves (now (words .entry)) (now (memory .entry)) r (now (words .exit)) ⌝ }
 {
-    State {
-        held,
-        cursor,
-        queue,
-        channels,
-        ..st
-    }
+    let advanced = advance(load_cursor(words, CURSOR), memory);
+    let past = advanced.cursor;
+    store_cursor(words, CURSOR, past);
+    advanced.found
 }
 
-// Reads on until there is an event, or nothing waits. What it changes is in locals; the rest goes from `st` to the answer.
-pub fn read_on(st: State, memory: &[u8], collecting: &mut [u8]) -> Answer
-    requires { ⌜ st .config .watch .n * st .config .rules .limit ≤ length (now collecting) ⌝ }
-    ensures { λ r. ⌜ (r, now (collecting .exit)) ≡ readAll st (now (memory .entry)) (now (collecting .entry)) ⌝ }
+// Reads on until there is an event, or nothing waits.
+pub fn read_on(config: Config, words: &mut [u64], memory: &[u8], collecting: &mut [u8]) -> Event
+    requires { ⌜ (stateWords ≤ length (now words)) × (stateIn (now words) .config ≡ config)
+        × (config .watch .n * config .rules .limit ≤ length (now collecting)) ⌝ }
+    ensures { λ r. ⌜ Reads (now (words .entry)) r (now (words .exit)) (now (collecting .exit))
+        (readAll (stateIn (now (words .entry))) (now (memory .entry)) (now (collecting .entry))) ⌝ }
 {
-    let config = st.config;
-    let mut held = st.held;
-    let mut cursor = st.cursor;
-    let mut queue = st.queue;
-    let mut channels = st.channels;
     loop {
-        let turn = find(queue, cursor, memory);
-        cursor = turn.cursor;
-        queue = turn.queue;
-        let found = turn.found;
+        let event = take(words, QUEUE, memory);
+        if is_event(event) {
+            return event;
+        }
+        let found = advance_in(words, memory);
         match found {
-            Found::Event(event) => {
-                let state = come_to(st, held, cursor, queue, channels);
-                return Answer { event, state };
-            }
-            Found::Packet(start, end) => {
-                let arrived = arrive(config, memory, start, end);
-                let k = place(arrived);
-                let channel = channels[k];
-                let j = receive(arrived, channel, queue, memory, collecting, config.rules);
-                queue = j.queue;
-                let after = j.channel;
-                channels[k] = after;
-            }
-            Found::Tail(start, len) => {
-                held = hold(start, len);
-            }
+            Found::Event(event) => return event,
+            Found::Packet(start, end) => receive(
+                config,
+                words,
+                QUEUE,
+                CHANNELS,
+                memory,
+                collecting,
+                start,
+                end,
+            ),
+            Found::Tail(start, len) => store_held(words, HELD, hold(start, len)),
             Found::Done => {
-                let mut state = come_to(st, held, cursor, queue, channels);
-                state.owed = false;
-                let event = Event::Nothing;
-                return Answer { event, state };
+                words[OWED] = 0;
+                return Event::Nothing;
             }
         }
     }
 }
 
 // The next event.
-pub fn next(st: State, memory: &[u8], collecting: &mut [u8]) -> Answer
-    ensures { λ r. ⌜ (r, now (collecting .exit)) ≡ nextOf st (now (memory .entry)) (now (collecting .entry)) ⌝ }
+pub fn next(words: &mut [u64], memory: &[u8], collecting: &mut [u8]) -> Event
+    ensures { λ r. ⌜ Answers (now (words .entry)) (now (collecting .entry)) r (now (words .exit)) (now (collecting .exit))
+        (nextOf (stateIn (now (words .entry))) (now (memory .entry)) (now (collecting .entry))) ⌝ }
 {
-    let config = st.config;
-    if is_short(config, memory.len(), collecting.len()) {
-        return Answer {
-            event: Event::Refused(22),
-            state: st,
-        };
+    if words.len() < STATE_WORDS {
+        return Event::Refused(90);
     }
-    if !st.owed {
-        return Answer {
-            event: Event::Nothing,
-            state: st,
-        };
+    if is_short(words, memory.len(), collecting.len()) {
+        return Event::Refused(22);
     }
-    read_on(st, memory, collecting)
+    if words[OWED] == 0 {
+        return Event::Nothing;
+    }
+    let config = load_config(words, CONFIG);
+    read_on(config, words, memory, collecting)
 }

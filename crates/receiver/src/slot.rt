@@ -1,28 +1,34 @@
 // Slot, with its data or lost.
 ghost use mathlib.Core.Path.{_≡_};
-ghost use Prim.Native.Nat.{_≤_};
+ghost use mathlib.Core.List.{[]};
+ghost use Prim.Native.Nat.{_≤_, _<_};
 ghost use lib.ListN.{length};
+ghost use Rattle.receiver.specs.Words.{stateWords, stateIn, Sets, Leaves};
 ghost use Rattle.receiver.specs.Slot.{shortBy, slotRefusal, counted, wrongLength, slotOf, lostSlotOf};
-use crate::answer::Called;
-use crate::frame::after_loss;
-use crate::state::Frame;
-use crate::state::State;
-use crate::state::settle;
+use crate::frame::lose;
+use crate::frame::settle;
+use crate::words::AT;
+use crate::words::CONFIG;
+use crate::words::HELD;
+use crate::words::OWED;
+use crate::words::STATE_WORDS;
+use crate::words::is_own;
+use crate::words::length_at;
+use crate::words::pointers_at;
 use intake::slot::MAX_SLOT;
 use intake::slot::SLOT_AREA;
-use reassembly::config::Config;
+use intake::words::load_held;
 
 // Whether packet memory has fewer than 21,433 bytes, or collecting memory fewer than n × R.
-pub fn is_short(config: Config, packet: usize, collecting: usize) -> bool
-    ensures { λ r. ⌜ r ≡ shortBy config packet collecting ⌝ }
+pub fn is_short(words: &[u64], packet: usize, collecting: usize) -> bool
+    requires { ⌜ stateWords ≤ length (now words) ⌝ }
+    ensures { λ r. ⌜ r ≡ shortBy (stateIn (now (words .entry)) .config) packet collecting ⌝ }
 {
     if packet < SLOT_AREA + MAX_SLOT {
         return true;
     }
-    let watch = config.watch;
-    let n = watch.n;
-    let rules = config.rules;
-    let limit = rules.limit;
+    let n = words[CONFIG + 2] as usize;
+    let limit = words[CONFIG + 3] as usize;
     if limit == 0 {
         return false;
     }
@@ -30,97 +36,85 @@ pub fn is_short(config: Config, packet: usize, collecting: usize) -> bool
 }
 
 // Refusals 20, 21 and 22; 0 for none.
-fn refusal(st: State, packet: usize, collecting: usize) -> u8
-    ensures { λ r. ⌜ r ≡ slotRefusal st packet collecting ⌝ }
+fn refusal(words: &[u64], packet: usize, collecting: usize) -> u8
+    requires { ⌜ stateWords ≤ length (now words) ⌝ }
+    ensures { λ r. ⌜ r ≡ slotRefusal (stateIn (now (words .entry))) packet collecting ⌝ }
 {
-    let frame = st.frame;
-    if 120 <= frame.at {
+    if 120 <= words[AT] {
         return 20;
     }
-    if st.owed {
+    if words[OWED] != 0 {
         return 21;
     }
-    let config = st.config;
-    if is_short(config, packet, collecting) {
+    if is_short(words, packet, collecting) {
         return 22;
     }
     0
 }
 
 // The slot is counted, and next is owed.
-fn count(st: State) -> State
-    requires { ⌜ st .frame .at ≤ 120 ⌝ }
-    ensures { λ r. ⌜ r ≡ counted st ⌝ }
+fn count(words: &mut [u64])
+    requires { ⌜ (stateWords ≤ length (now words)) × (stateIn (now words) .frame .at < 120) ⌝ }
+    ensures { λ _. ⌜ Sets (now (words .entry)) (now (words .exit)) (counted (stateIn (now (words .entry)))) ⌝ }
 {
-    let before = st.frame;
-    let at = before.at + 1;
-    let frame = Frame { at, ..before };
-    State {
-        frame,
-        owed: true,
-        ..st
-    }
+    words[AT] = words[AT] + 1;
+    words[OWED] = 1;
 }
 
 // Whether a slot's data has another length than its mode's, or than any slot's.
-fn is_wrong(length: u16, len: usize) -> bool
+fn is_wrong(length: u64, len: usize) -> bool
     ensures { λ r. ⌜ r ≡ wrongLength length len ⌝ }
 {
     if MAX_SLOT < len {
         return true;
     }
-    len != length as usize
+    len as u64 != length
 }
 
 // The slot that is due, with its bytes.
-pub fn slot(st: State, packet: &mut [u8], collecting: &[u8], bytes: &[u8]) -> Called
-    ensures { λ r. ⌜ (r, now (packet .exit)) ≡ slotOf st (now (packet .entry)) (now (collecting .entry)) (now (bytes .entry)) ⌝ }
+pub fn slot(words: &mut [u64], packet: &mut [u8], collecting: &[u8], bytes: &[u8]) -> u8
+    ensures { λ r. ⌜ Leaves (now (words .entry)) (now (packet .entry)) r (now (words .exit)) (now (packet .exit))
+        (slotOf (stateIn (now (words .entry))) (now (packet .entry)) (now (collecting .entry)) (now (bytes .entry))) ⌝ }
 {
-    let refusal = refusal(st, packet.len(), collecting.len());
+    if words.len() < STATE_WORDS {
+        return 90;
+    }
+    let refusal = refusal(words, packet.len(), collecting.len());
     if refusal != 0 {
-        return Called { refusal, state: st };
+        return refusal;
     }
-    let frame = st.frame;
-    let at = frame.at;
-    let layout = frame.layout;
-    if is_wrong(layout.lengths[at], bytes.len()) {
-        return Called {
-            refusal: 23,
-            state: st,
-        };
+    let at = words[AT] as usize;
+    if is_wrong(length_at(words, at), bytes.len()) {
+        return 23;
     }
-    let next = count(st);
-    if !layout.own[at] {
-        return Called {
-            refusal: 0,
-            state: next,
-        };
+    let own = is_own(words, at);
+    let pointers = pointers_at(words, at);
+    count(words);
+    if !own {
+        return 0;
     }
-    let pointers = layout.pointers[at];
-    let held = next.held;
-    let taken = intake::slot::take(held, packet, bytes, pointers);
-    let state = settle(next, taken);
-    Called { refusal: 0, state }
+    let taken = intake::slot::take(load_held(words, HELD), packet, bytes, pointers);
+    settle(words, taken);
+    0
 }
 
 // The slot that is due, lost.
-pub fn lost_slot(st: State, packet: &[u8], collecting: &[u8]) -> Called
-    ensures { λ r. ⌜ r ≡ lostSlotOf st (length (now (packet .entry))) (length (now (collecting .entry))) ⌝ }
+pub fn lost_slot(words: &mut [u64], packet: &[u8], collecting: &[u8]) -> u8
+    ensures { λ r. ⌜ Leaves (now (words .entry)) [] r (now (words .exit)) []
+        (lostSlotOf (stateIn (now (words .entry))) (length (now (packet .entry))) (length (now (collecting .entry))), []) ⌝ }
 {
-    let refusal = refusal(st, packet.len(), collecting.len());
+    if words.len() < STATE_WORDS {
+        return 90;
+    }
+    let refusal = refusal(words, packet.len(), collecting.len());
     if refusal != 0 {
-        return Called { refusal, state: st };
+        return refusal;
     }
-    let frame = st.frame;
-    let due = frame.at;
-    let layout = frame.layout;
-    let counted = count(st);
-    if !layout.own[due] {
-        return Called {
-            refusal: 0,
-            state: counted,
-        };
+    let own = is_own(words, words[AT] as usize);
+    count(words);
+    if !own {
+        return 0;
     }
-    let state = after_loss(counted);
-    Called { refusal: 0, state }
+    lose(words);
+    0
 }

@@ -1,18 +1,18 @@
 // Start: a fresh receiver, or refusals 1 to 4.
 ghost use mathlib.Core.Path.{_≡_};
-ghost use Rattle.receiver.specs.Start.{twice, freshState, startRefusal, startOf};
-use crate::answer::Called;
-use crate::state::Frame;
-use crate::state::State;
-use delivery::queue::Give;
-use delivery::queue::Queue;
-use intake::held::Cursor;
-use intake::held::Held;
+ghost use mathlib.Core.List.{[]};
+ghost use Prim.Native.Nat.{_≤_};
+ghost use lib.ListN.{length};
+ghost use Rattle.receiver.specs.Words.{stateWords, stateIn, Sets, Leaves, Cleared};
+ghost use Rattle.receiver.specs.Start.{twice, freshState, startRefusal, startFrom};
+use crate::words::AT;
+use crate::words::CONFIG;
+use crate::words::STATE_WORDS;
 use mmtp::watch::Found;
 use mmtp::watch::Watch;
 use mmtp::watch::lookup;
 use reassembly::config::Config;
-use reassembly::config::Rules;
+use reassembly::words::store_config;
 
 // Whether an id stands twice among the first `n`, at most 16.
 fn has_twice(watch: Watch, n: usize) -> bool
@@ -61,58 +61,37 @@ fn refusal(config: Config) -> u8
     0
 }
 
-// A receiver that has read nothing.
-fn fresh(config: Config) -> State
-    ensures { λ r. ⌜ r ≡ freshState config ⌝ }
+// 0 in every word.
+fn clear(words: &mut [u64])
+    requires { ⌜ stateWords ≤ length (now words) ⌝ }
+    ensures { λ _. ⌜ Cleared (now (words .entry)) (now (words .exit)) ⌝ }
 {
-    let layout = tmcc::layout::blank();
-    let frame = Frame { layout, at: 120 };
-    let held = Held {
-        on: false,
-        start: 0,
-        len: 0,
-    };
-    let cursor = Cursor {
-        note: 0,
-        packet: 0,
-        reading: false,
-        at: 0,
-        end: 0,
-    };
-    let queue = Queue {
-        note: 0,
-        over: false,
-        packet_id: 0,
-        give: Give::Nothing,
-    };
-    let channel = reassembly::channel::fresh();
-    let channels = [channel; 16];
-    State {
-        config,
-        frame,
-        owed: false,
-        held,
-        cursor,
-        queue,
-        channels,
+    let mut i = 0;
+    while i < STATE_WORDS {
+        words[i] = 0;
+        i += 1;
     }
 }
 
-pub fn start(config: Config) -> Called
-    ensures { λ r. ⌜ r ≡ startOf config ⌝ }
+// A receiver that has read nothing.
+pub fn put_fresh(words: &mut [u64], config: Config)
+    requires { ⌜ stateWords ≤ length (now words) ⌝ }
+    ensures { λ _. ⌜ Sets (now (words .entry)) (now (words .exit)) (freshState config) ⌝ }
 {
+    clear(words);
+    store_config(words, CONFIG, config);
+    words[AT] = 120;
+}
+
+pub fn start(config: Config, words: &mut [u64]) -> u8
+    ensures { λ r. ⌜ Leaves (now (words .entry)) [] r (now (words .exit)) [] (startFrom (stateIn (now (words .entry))) config, []) ⌝ }
+{
+    if words.len() < STATE_WORDS {
+        return 90;
+    }
     let refusal = refusal(config);
     if refusal == 0 {
-        let state = fresh(config);
-        return Called { refusal: 0, state };
+        put_fresh(words, config);
     }
-    let watch = Watch { ids: [0; 16], n: 0 };
-    let blank = Config {
-        stream: 0,
-        cid: 0,
-        watch,
-        rules: Rules { limit: 0 },
-    };
-    let state = fresh(blank);
-    Called { refusal, state }
+    refusal
 }

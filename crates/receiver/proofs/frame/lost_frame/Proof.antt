@@ -1,24 +1,40 @@
 -- Why lost_frame meets its contract: each return is one case of the definition.
-use mathlib.Core.Path.{sym, ap, _∙_}
-use Rattle.receiver.specs.State.{accepted}
+use mathlib.Core.List.{[]}
+use mathlib.Core.Path.{refl, sym, _∙_, ap}
+use Rattle.receiver.specs.Leaves.{leaves-short, leaves-refused, leaves-accepted}
 use Rattle.receiver.specs.Frame.{lost-frame-busy, lost-frame-accepted}
+use Rattle.receiver.specs.State.{Called}
 use borrow.Author.Needs.{needs}
 use Rattle.receiver.proofs.frame.lost_frame.Statement.{statement}
 use Rattle.receiver.proofs.frame.lost_frame.Tie as tie
 
+returns : tie.Need-returns
+returns c = leaves-short _ _ _ (c .if1 .taken)
+
 is-busy-requires : tie.Need-is-busy-requires
 is-busy-requires c κs = search needs
 
-returns : tie.Need-returns
-returns c = sym (lost-frame-busy _ (sym (c .before .is-busy .ensures) ∙ c .if1 .taken))
-
-after-loss-requires : tie.Need-after-loss-requires
-after-loss-requires c κs = search needs
+same-length : tie.Need-same-length
+same-length c = search needs
 
 returns-2 : tie.Need-returns-2
 returns-2 c =
-    ap accepted (c .after-loss .ensures)
-    ∙ sym (lost-frame-accepted _ (sym (c .before .before .is-busy .ensures) ∙ c .before .if1 .left))
+    leaves-refused _ _ _ _ (c .before .before .before .if1 .left)
+    (ap (λ (x : Called). (x, [])) (lost-frame-busy _ (sym (c .before .is-busy .ensures) ∙ c .if2 .taken)))
+
+lose-requires : tie.Need-lose-requires
+lose-requires c κs = search needs
+
+same-length-2 : tie.Need-same-length-2
+same-length-2 c = search needs
+
+returns-3 : tie.Need-returns-3
+returns-3 c =
+    let b = c .before .before .before .before in
+    leaves-accepted _ _ _ _ _ _ _ (b .before .before .before .if1 .left) refl (c .before .before .lose .ensures)
+    (ap (λ (x : Called). (x, [])) (lost-frame-accepted _ (sym (b .before .is-busy .ensures) ∙ b .if2 .left)))
 
 pub lost-frame-spec : {M : Type 1} → statement M
-lost-frame-spec = tie.close (tie.spec is-busy-requires returns after-loss-requires returns-2)
+lost-frame-spec =
+    tie.close
+    (tie.spec returns is-busy-requires same-length returns-2 lose-requires same-length-2 returns-3)

@@ -1,171 +1,176 @@
 -- Why `read_on` meets its contract: each turn leaves what reading on comes to, and the cursor less.
-use Prim.Native.Nat.{ℕ, _<_}
+use Prim.Native.Nat.{_≤_}
+use mathlib.Core.Bool.{false}
 use mathlib.Core.Path.{_≡_, refl, sym, _∙_, ap}
-use mathlib.Core.List.{List}
 use native.Mathlib.Omega.{arith}
-use lib.ListN.{length}
-use borrow.Author.Needs.{needs}
-use Rattle.reassembly.specs.declared.channel.Channel.{Channel}
-use Rattle.reassembly.specs.Channel.{unheard}
-use Rattle.intake.specs.declared.held.Held.{Held}
-use Rattle.intake.specs.declared.held.Cursor.{Cursor}
-use Rattle.delivery.specs.declared.queue.Queue.{Queue}
-use Rattle.delivery.specs.declared.packet.JoinedPacket.{JoinedPacket}
-use Rattle.delivery.specs.Packet.{Fits}
-use Rattle.delivery.specs.Cursor.{left, turn-less}
-use Rattle.delivery.specs.Within.{arrived-below, arrived-fits, length-received}
-use Rattle.receiver.specs.declared.state.State.{State}
-use Rattle.receiver.specs.State.{withSlot, withQueue, withChannels}
+use lib.ListN.{length, length-set}
+use Rattle.delivery.specs.declared.cursor.Found.{Found}
+use Rattle.delivery.specs.Cursor.{left}
+use Rattle.receiver.specs.Turns.{Turned, turned-event, turned-on, turned-less, turned-config}
+use Rattle.receiver.specs.Turns.{reads-event, reads-packet, reads-tail, reads-done}
+use Rattle.receiver.specs.Lent.{state-held, state-packet, placed-low}
+use Rattle.receiver.specs.Clean.{exact-none, exact-on, exact-held, exact-queue, exact-owed, exact-packet}
 use Rattle.receiver.specs.Next.{readAll}
-use Rattle.receiver.specs.ReadOn.{read-event, read-received, read-tail, read-done}
+use Rattle.receiver.specs.Words.{stateIn, Exact}
+use Rattle.receiver.specs.State.{State}
+use borrow.Author.Needs.{needs}
 use Rattle.receiver.proofs.next.read_on.Statement.{statement}
 use Rattle.receiver.proofs.next.read_on.Tie as tie
 
--- the state in a turn
-abbrev on : State → Held → Cursor → Queue → List Channel → State
-on st h c q l = withQueue (withChannels (withSlot st h c) l) q
-
 abbrev Inv-loop : tie.InvT-loop
-Inv-loop st memory collecting₀ config held₀ cursor₀ queue₀ channels₀ collecting held cursor queue channels =
-    (readAll (on st held cursor queue channels) memory collecting ≡ readAll st memory collecting₀)
-    × (length collecting ≡ length collecting₀)
+Inv-loop config words₀ memory collecting₀ words collecting =
+    (readAll (stateIn words) memory collecting ≡ readAll (stateIn words₀) memory collecting₀) × Exact words₀ words
+    × (length collecting ≡ length collecting₀) × (stateIn words .config ≡ config)
 
 abbrev μ-loop : tie.MeasureT-loop
-μ-loop st memory collecting₀ config held₀ cursor₀ queue₀ channels₀ collecting held cursor queue channels = left cursor
+μ-loop config words₀ memory collecting₀ words collecting = left (stateIn words .cursor)
 
--- the front of the loop, the function's, and the state there
-abbrev front : tie.After-find Inv-loop μ-loop → tie.At-loop Inv-loop μ-loop
-front d = d .before
+-- from a place back to the call of take, to the loop's front, and to the function's
+abbrev took : tie.After-advance-in Inv-loop μ-loop → tie.After-take Inv-loop μ-loop
+took d = d .before .before .before .before .before .before
+
+abbrev front : tie.After-take Inv-loop μ-loop → tie.At-loop Inv-loop μ-loop
+front k = k .before .before
 
 abbrev entry : tie.At-loop Inv-loop μ-loop → tie.Start Inv-loop μ-loop
-entry l = l .before .before .before .before .before .before .before .before
+entry l = l .before .before .before .before
 
-abbrev current : tie.At-loop Inv-loop μ-loop → State
-current l = on (entry l .args .st) (l .loop .held) (l .loop .cursor) (l .loop .queue) (l .loop .channels)
+-- the words after an event, or none, was taken from the queue
+taken-words : (k : tie.After-take Inv-loop μ-loop) → Exact (entry (front k) .args .words .now) (k .take .last .0)
+taken-words k =
+    let e = k .take .ensures in
+    exact-on _ _ _ (front k .loop .inv .1) (exact-queue _ _ (e .within) (e .clean))
 
--- from a packet back to what find answered
-abbrev packet-found : tie.After-arrive Inv-loop μ-loop → tie.After-find Inv-loop μ-loop
-packet-found a = a .before .before .before .before .before .before
+-- what a turn without an event of the queue comes to
+module _ (d : tie.After-advance-in Inv-loop μ-loop) where
+  comes-to : (f : Found) → d .advance-in .result ≡ f → let l = front (took d) in
+      Turned (l .loop .words) (entry l .args .memory .now) f (d .advance-in .last .0)
+  comes-to f e =
+      let b = d .before .before in
+      let n = sym (b .before .is-event .ensures) ∙ b .if1 .left in
+      rw (← e) (turned-on _ _ _ _ (took d .take .ensures) _ _ n (d .advance-in .ensures))
 
--- the place of the packet's packet_id
-below : (d : tie.After-place Inv-loop μ-loop) → d .place .result < 16
-below d = rw (d .place .ensures) (arrived-below _ _ _ _ _ (sym (d .before .arrive .ensures)))
+  same-words : Exact (entry (front (took d)) .args .words .now) (d .advance-in .last .0)
+  same-words = exact-on _ _ _ (taken-words (took d)) (d .advance-in .ensures .exact)
 
--- it has room to collect
-fits : (d : tie.After-arrive Inv-loop μ-loop) → let l = front (packet-found d) in
-    Fits (d .arrive .result) (entry l .args .st .config .rules) (length (l .loop .collecting))
-fits d =
-    let l = front (packet-found d) in
-    arrived-fits _ _ _ _ _ _ (sym (d .arrive .ensures)) (rw (l .loop .inv .1) (entry l .pre))
+  enough : 751 ≤ length (d .advance-in .last .0)
+  enough = rw (same-words .size) (entry (front (took d)) .pre .0)
 
 loop-holds : tie.Need-loop-holds Inv-loop μ-loop
-loop-holds c = (refl, refl)
+loop-holds c = (refl, exact-none _, refl, c .before .before .before .pre .1)
 
-find-requires : tie.Need-find-requires Inv-loop μ-loop
-find-requires c κs = search needs
-
-enum-known-found : tie.Need-enum-known-found Inv-loop μ-loop
-enum-known-found c = search needs
-
-come-to-requires : tie.Need-come-to-requires Inv-loop μ-loop
-come-to-requires c κs = search needs
+take-requires : tie.Need-take-requires Inv-loop μ-loop
+take-requires c κs =
+    let l = c .before in
+    omega (arith, l .loop .inv .1 .size, entry l .pre .0)
 
 same-length : tie.Need-same-length Inv-loop μ-loop
-same-length c = search needs
+same-length c = taken-words (c .before .before .before .before) .size
+
+same-length-2 : tie.Need-same-length-2 Inv-loop μ-loop
+same-length-2 c = front (c .before .before .before .before) .loop .inv .2
 
 returns : tie.Need-returns Inv-loop μ-loop
 returns c =
-    let d = c .before .before .before .before .before .before in
-    let l = front d .loop in
-    let e = rw (d .find .ensures) at (c .before .before .found .given .1) in
-    rw (c .come-to .ensures, d .find .ensures) (sym (read-event (current (front d)) _ (l .collecting) _ e) ∙ l .inv .0)
+    let k = c .before .before .before .before in
+    let l = front k .loop in
+    let e = k .take .ensures in
+    let x = turned-event _ _ _ _ e (sym (c .before .is-event .ensures) ∙ c .if1 .taken) in
+    record { answer = sym (reads-event _ _ _ (l .collecting) _ x) ∙ l .inv .0; exact = taken-words k }
 
-enum-known-found-2 : tie.Need-enum-known-found-2 Inv-loop μ-loop
-enum-known-found-2 c = search needs
+advance-in-requires : tie.Need-advance-in-requires Inv-loop μ-loop
+advance-in-requires c κs =
+    let k = c .before .before .before .before .before in
+    let l = front k in
+    omega (arith, taken-words k .size, entry l .pre .0)
 
-arrive-requires : tie.Need-arrive-requires Inv-loop μ-loop
-arrive-requires c κs = search needs
+same-length-3 : tie.Need-same-length-3 Inv-loop μ-loop
+same-length-3 c = same-words (c .before .before .before .before .before) .size
 
-place-requires : tie.Need-place-requires Inv-loop μ-loop
-place-requires c κs = search needs
+same-length-4 : tie.Need-same-length-4 Inv-loop μ-loop
+same-length-4 c = let d = c .before .before .before .before .before in front (took d) .loop .inv .2
 
-mul-channel : tie.Need-mul-channel Inv-loop μ-loop
-mul-channel c = record { fits = omega (arith, below c) }
-
-array-copy-out-channel : tie.Need-array-copy-out-channel Inv-loop μ-loop
-array-copy-out-channel c = below c
+returns-2 : tie.Need-returns-2 Inv-loop μ-loop
+returns-2 c =
+    let d = c .before .before .before .before .before in
+    let l = front (took d) .loop in
+    let x = comes-to d _ (c .before .found .given .1) in
+    record { answer = sym (reads-event _ _ _ (l .collecting) _ x) ∙ l .inv .0; exact = same-words d }
 
 receive-requires : tie.Need-receive-requires Inv-loop μ-loop
-receive-requires c κs = fits (c .before .before .before)
-
-mul-channels : tie.Need-mul-channels Inv-loop μ-loop
-mul-channels c = record { fits = omega (arith, below (c .before .before .before .before .before .before .before)) }
-
-array-set-from-channels : tie.Need-array-set-from-channels Inv-loop μ-loop
-array-set-from-channels c = below (c .before .before .before .before .before .before .before)
+receive-requires c κs =
+    let d = c .before .before .before .before .before .before .before in
+    let l = front (took d) in
+    (omega arith, omega (arith, enough d), rw (l .loop .inv .2) (entry l .pre .2))
 
 loop-less : tie.Need-loop-less Inv-loop μ-loop
 loop-less c =
-    let a = c .before .before .before .before .before .before .before .before in
-    let d = packet-found a in
-    let l = front d .loop in
-    rw (d .find .ensures) (turn-less (l .queue) (l .cursor) _ (rw (sym (d .find .ensures), a .before .before .found2 .given .1)))
+    let r = c .before .before .before .before in
+    let f = r .before .before .before .before in
+    let x = comes-to (f .before .before .before .before) _ (f .found2 .given .1) in
+    rw (state-packet _ _ _ _ _ _ _ _ (r .receive .ensures)) (turned-less _ _ _ _ x refl)
 
 loop-again : tie.Need-loop-again Inv-loop μ-loop
-unfolding unheard
 loop-again c =
-    let x = c .before .before .before .before .receive in
-    let k = c .before .before .before .before .before .before .before .place in
-    let a = c .before .before .before .before .before .before .before .before in
-    let d = packet-found a in
-    let l = front d .loop in
-    let e = rw (d .find .ensures) at (a .before .before .found2 .given .1) in (
-      rw (d .find .ensures, k .ensures)
-          (sym (read-received (current (front d)) _ (l .collecting) _ _ (a .arrive .result) _ _ e
-          (sym (a .arrive .ensures)) (rw (← k .ensures, ← d .find .ensures) (x .ensures)))
-          ∙ l .inv .0),
-      ap (λ (y : JoinedPacket × List ℕ). length (y .1)) (x .ensures) ∙ length-received _ _ _ _ _ _ (fits a) ∙ l .inv .1,
+    let r = c .before .before .before .before in
+    let f = r .before .before .before .before in
+    let d = f .before .before .before .before in
+    let l = front (took d) .loop in
+    let x = comes-to d _ (f .found2 .given .1) in
+    let e = r .receive .ensures in (
+      sym (reads-packet _ _ _ (l .collecting) _ _ _ _ _ x (l .inv .3) e) ∙ l .inv .0,
+      exact-on _ _ _ (same-words d)
+          (exact-packet _ _ _ (placed-low _ _ _ _ _ _ _ _ e) (e .size) (e .elsewhere) (e .queue-clean) (e .channel-clean)),
+      r .receive .kept .1 .1 .1 .1 .1 .0 ∙ l .inv .2,
+      ap (λ (s : State). s .config) (state-packet _ _ _ _ _ _ _ _ e) ∙ turned-config _ _ _ _ x ∙ l .inv .3,
     )
 
-enum-known-found-3 : tie.Need-enum-known-found-3 Inv-loop μ-loop
-enum-known-found-3 c = search needs
-
-hold-requires : tie.Need-hold-requires Inv-loop μ-loop
-hold-requires c κs = search needs
+store-held-requires : tie.Need-store-held-requires Inv-loop μ-loop
+store-held-requires c κs = omega (arith, enough (c .before .before .before .before .before .before .before))
 
 loop-less-2 : tie.Need-loop-less-2 Inv-loop μ-loop
 loop-less-2 c =
-    let d = c .before .before .before .before .before .before in
-    let l = front d .loop in
-    rw (d .find .ensures)
-    (turn-less (l .queue) (l .cursor) _ (rw (sym (d .find .ensures), c .before .before .found3 .given .1)))
+    let h = c .before .before in
+    let f = h .before .before .before .before in
+    let x = comes-to (f .before .before .before .before) _ (f .found3 .given .1) in
+    let q = rw (h .before .hold .ensures) at (h .store-held .ensures) in
+    rw (state-held _ _ _ q) (turned-less _ _ _ _ x refl)
 
 loop-again-2 : tie.Need-loop-again-2 Inv-loop μ-loop
 loop-again-2 c =
-    let d = c .before .before .before .before .before .before in
-    let l = front d .loop in
-    let e = rw (d .find .ensures) at (c .before .before .found3 .given .1) in (
-      rw (c .hold .ensures, d .find .ensures)
-          (sym (read-tail (current (front d)) _ (l .collecting) _ _ e) ∙ l .inv .0),
-      l .inv .1,
+    let h = c .before .before in
+    let f = h .before .before .before .before in
+    let d = f .before .before .before .before in
+    let l = front (took d) .loop in
+    let x = comes-to d _ (f .found3 .given .1) in
+    let q = rw (h .before .hold .ensures) at (h .store-held .ensures) in (
+      sym (reads-tail _ _ _ (l .collecting) _ _ _ x q) ∙ l .inv .0,
+      exact-on _ _ _ (same-words d) (exact-held _ _ _ q),
+      l .inv .2,
+      ap (λ (s : State). s .config) (state-held _ _ _ q) ∙ turned-config _ _ _ _ x ∙ l .inv .3,
     )
 
 enum-told : tie.Need-enum-told Inv-loop μ-loop
 enum-told c = search needs
 
-come-to-requires-2 : tie.Need-come-to-requires-2 Inv-loop μ-loop
-come-to-requires-2 c κs = search needs
+slice-write-words : tie.Need-slice-write-words Inv-loop μ-loop
+slice-write-words c = omega (arith, enough (c .before .before .before .before))
 
-same-length-2 : tie.Need-same-length-2 Inv-loop μ-loop
-same-length-2 c = search needs
+same-length-5 : tie.Need-same-length-5 Inv-loop μ-loop
+same-length-5 c = simp length-set (same-words (c .before .before .before .before) .size)
 
-returns-2 : tie.Need-returns-2 Inv-loop μ-loop
-returns-2 c =
-    let d = c .before .before .before .before .before in
-    let l = front d .loop in
-    let e = rw (d .find .ensures) at (c .before .enum-told .given .1) in
-    rw (c .come-to2 .ensures, d .find .ensures)
-    (sym (read-done (current (front d)) _ (l .collecting) e) ∙ l .inv .0)
+same-length-6 : tie.Need-same-length-6 Inv-loop μ-loop
+same-length-6 c = let d = c .before .before .before .before in front (took d) .loop .inv .2
+
+returns-3 : tie.Need-returns-3 Inv-loop μ-loop
+returns-3 c =
+    let d = c .before .before .before .before in
+    let l = front (took d) .loop in
+    let x = comes-to d _ (c .enum-told .given .1) in
+    record {
+      answer = sym (reads-done _ _ _ (l .collecting) x (omega (arith, enough d))) ∙ l .inv .0;
+      exact = exact-on _ _ _ (same-words d) (exact-owed (d .advance-in .last .0) false (omega (arith, enough d)));
+    }
 
 pub read-on-spec : {M : Type 1} → statement M
 read-on-spec =
@@ -174,26 +179,27 @@ read-on-spec =
     Inv-loop
     μ-loop
     loop-holds
-    find-requires
-    enum-known-found
-    come-to-requires
+    take-requires
+    (λ c κs. search needs)
     same-length
+    same-length-2
     returns
-    enum-known-found-2
-    arrive-requires
-    place-requires
-    mul-channel
-    array-copy-out-channel
+    advance-in-requires
+    (λ c. search needs)
+    same-length-3
+    same-length-4
+    returns-2
+    (λ c. search needs)
     receive-requires
-    mul-channels
-    array-set-from-channels
     loop-less
     loop-again
-    enum-known-found-3
-    hold-requires
+    (λ c. search needs)
+    (λ c κs. search needs)
+    store-held-requires
     loop-less-2
     loop-again-2
     enum-told
-    come-to-requires-2
-    same-length-2
-    returns-2)
+    slice-write-words
+    same-length-5
+    same-length-6
+    returns-3)

@@ -1,4 +1,4 @@
--- Why is_wrong meets its contract: each return is one case of the definition.
+-- Why is_wrong meets its contract: too long for any slot, or for this one.
 use mathlib.Core.Path.{sym}
 use Rattle.receiver.specs.Slot.{length-above, length-other}
 use Rattle.receiver.proofs.slot.is_wrong.Statement.{statement}

@@ -1,112 +1,134 @@
 -- Why slot meets its contract: each return is one case of the definition.
-use mathlib.Core.Path.{sym, _∙_, ap}
+use Prim.Native.Nat.{_≤_}
+use mathlib.Core.Bool.{false}
+use mathlib.Core.Path.{_≡_, refl, sym, _∙_}
 use native.Mathlib.Omega.{arith}
+use lib.ListN.{length}
 use borrow.Author.Tests.{not-true, not-false}
-use Rattle.receiver.specs.State.{accepted, withIntake}
-use Rattle.intake.specs.Slot.{IntakeOut}
-use Rattle.receiver.specs.Slot.{SlotOut, ready, right-length, slot-refused, slot-wrong-length, slot-not-own, slot-own}
+use Rattle.receiver.specs.Leaves.{sets-on, leaves-short, leaves-refused, leaves-accepted}
+use Rattle.receiver.specs.Lent.{due-first, due-wrong, due-own, due-pointers, slot-settled}
+use Rattle.receiver.specs.Slot.{slotRefusal, dueLength, wrongLength, Ready, ready, right-length}
+use Rattle.receiver.specs.Slot.{slot-refused, slot-wrong-length, slot-not-own}
+use Rattle.receiver.specs.Words.{stateWords, stateIn}
+use Rattle.receiver.specs.State.{State, withIntake}
 use borrow.Author.Needs.{needs}
 use Rattle.receiver.proofs.slot.slot.Statement.{statement}
 use Rattle.receiver.proofs.slot.slot.Tie as tie
 
-refusal-requires : tie.Need-refusal-requires
-refusal-requires c κs = search needs
+-- the words suffice, and the slot is not refused
+abbrev entry : tie.Else2 → tie.Start
+entry d = d .before .before .before .before .before .before .before .before
+
+enough : (d : tie.Else2) → stateWords ≤ length (entry d .args .words .now)
+enough d = d .before .before .before .if1 .left
+
+accepts : (d : tie.Else2) → let a = entry d .args in
+    slotRefusal (stateIn (a .words .now)) (length (a .packet .now)) (length (a .collecting .now)) ≡ 0
+accepts d = sym (d .before .refusal .ensures) ∙ d .if2 .left
+
+is-ready : (d : tie.Else2) → let a = entry d .args in
+    Ready (stateIn (a .words .now)) (length (a .packet .now)) (length (a .collecting .now))
+is-ready d = ready _ _ _ (accepts d)
+
+-- nor for its length
+right : (b : tie.Else3) → let a = entry (b .before .before .before .before .before) .args in
+    wrongLength (dueLength (stateIn (a .words .now))) (length (a .bytes .now)) ≡ false
+right b =
+    let w = b .before in
+    let h = is-ready (w .before .before .before .before) .due in
+    due-wrong _ h _ _ _ (w .before .length-at .ensures) (sym (w .is-wrong .ensures) ∙ b .if3 .left)
 
 returns : tie.Need-returns
-returns c =
-    let e = c .before .refusal .ensures in
-    rw e (sym (slot-refused _ _ _ _ (rw e at (c .if1 .taken))))
-
-mul-is-wrong : tie.Need-mul-is-wrong
-mul-is-wrong c =
-    let d = c .before .before in
-    omega (arith, ready _ _ _ (sym (d .before .refusal .ensures) ∙ d .if1 .left) .due)
-
-element-copy-out-is-wrong : tie.Need-element-copy-out-is-wrong
-element-copy-out-is-wrong c =
-    let d = c .before .before in
-    ready _ _ _ (sym (d .before .refusal .ensures) ∙ d .if1 .left) .due
-
-is-wrong-requires : tie.Need-is-wrong-requires
-is-wrong-requires c κs = search needs
+returns c = leaves-short _ _ _ (c .if1 .taken)
 
 returns-2 : tie.Need-returns-2
 returns-2 c =
-    let d = c .before .before .before .before .before in
-    let z = sym (d .before .refusal .ensures) ∙ d .if1 .left in
-    sym (slot-wrong-length _ _ _ _ z (sym (c .before .is-wrong .ensures) ∙ c .if2 .taken))
+    let e = c .before .refusal .ensures in
+    leaves-refused _ _ _ _ (c .before .before .before .if1 .left)
+    (rw e (slot-refused _ _ _ _ (rw e at (c .if2 .taken))))
 
-count-requires : tie.Need-count-requires
-count-requires c κs =
-    let d = c .before .before .before .before .before in
-    let r = ready _ _ _ (sym (d .before .refusal .ensures) ∙ d .if1 .left) in
-    omega (arith, r .due)
-
-element-copy-out-if3 : tie.Need-element-copy-out-if3
-element-copy-out-if3 c =
-    let d = c .before .before .before .before .before .before in
-    ready _ _ _ (sym (d .before .refusal .ensures) ∙ d .if1 .left) .due
+length-at-requires : tie.Need-length-at-requires
+length-at-requires c κs =
+    let d = c .before .before in
+    (due-first _ (is-ready d .due), enough d)
 
 returns-3 : tie.Need-returns-3
 returns-3 c =
-    let w = c .before .before .before in
-    let d = w .before .before .before .before .before in
-    let z = sym (d .before .refusal .ensures) ∙ d .if1 .left in
-    let l = sym (w .before .is-wrong .ensures) ∙ w .if2 .left in
-    rw (c .before .before .count .ensures) (sym (slot-not-own _ _ _ _ z l (not-true _ (c .if3 .taken))))
+    let d = c .before .before .before .before .before in
+    let t = sym (c .before .is-wrong .ensures) ∙ c .if3 .taken in
+    leaves-refused _ _ _ _ (enough d)
+    (slot-wrong-length _ _ _ _ (accepts d) (due-wrong _ (is-ready d .due) _ _ _ (c .before .before .length-at .ensures) t))
 
-mul-pointers : tie.Need-mul-pointers
-mul-pointers c =
+is-own-requires : tie.Need-is-own-requires
+is-own-requires c κs =
+    let d = c .before .before .before .before .before .before in
+    (due-first _ (is-ready d .due), enough d)
+
+pointers-at-requires : tie.Need-pointers-at-requires
+pointers-at-requires c κs =
     let d = c .before .before .before .before .before .before .before .before in
-    omega (arith, ready _ _ _ (sym (d .before .refusal .ensures) ∙ d .if1 .left) .due)
+    (due-first _ (is-ready d .due), enough d)
 
-element-copy-out-pointers : tie.Need-element-copy-out-pointers
-element-copy-out-pointers c =
-    let d = c .before .before .before .before .before .before .before .before in
-    ready _ _ _ (sym (d .before .refusal .ensures) ∙ d .if1 .left) .due
-
-take-requires : tie.Need-take-requires
-take-requires c κs =
-    let w = c .before .before .before .before .before .before in
-    let d = w .before .before .before .before .before in
-    let z = sym (d .before .refusal .ensures) ∙ d .if1 .left in
-    let l = sym (w .before .is-wrong .ensures) ∙ w .if2 .left in
-    (ready _ _ _ z .packets, right-length _ _ l .0)
-
-settle-requires : tie.Need-settle-requires
-settle-requires c κs = search needs
-
-same-length : tie.Need-same-length
-same-length c = search needs
+count-requires : tie.Need-count-requires
+count-requires c κs =
+    let d = c .before .before .before .before .before .before .before .before .before .before in
+    (enough d, is-ready d .due)
 
 returns-4 : tie.Need-returns-4
 returns-4 c =
-    let o = c .before .before .before .before .before .before .before in
-    let w = o .before .before .before in
-    let d = w .before .before .before .before .before in
-    let z = sym (d .before .refusal .ensures) ∙ d .if1 .left in
-    let l = sym (w .before .is-wrong .ensures) ∙ w .if2 .left in
-    let n = o .before .before .count .ensures in
-    let f : IntakeOut → SlotOut = λ q. (accepted (withIntake (o .before .before .count .result) (q .0)), q .1) in
-    rw (c .settle .ensures)
-    (ap f (c .before .before .before .take .ensures) ∙ rw n (sym (slot-own _ _ _ _ z l (not-false _ (o .if3 .left)))))
+    let i = c .before .before .before .before .before .before .before in
+    let b = i .before .before in
+    let d = b .before .before .before .before .before in
+    let o = due-own _ (is-ready d .due) ∙ sym (i .is-own .ensures) ∙ not-true _ (c .if4 .taken) in
+    leaves-accepted _ _ _ _ _ _ _ (enough d) refl (c .before .before .before .count .ensures) (slot-not-own _ _ _ _ (accepts d) (right b) o)
+
+take-requires : tie.Need-take-requires
+take-requires c κs =
+    let b = c .before .before .before .before .before .before .before .before .before .before .before .before in
+    (is-ready (b .before .before .before .before .before) .packets, right-length _ _ (right b) .0)
+
+settle-requires : tie.Need-settle-requires
+settle-requires c κs =
+    let n = c .before .before .before .before .before .before .before .before .before .before in
+    let d = n .before .before .before .before .before .before .before .before .before .before .before in
+    omega (arith, n .count .ensures .exact .size, enough d)
+
+returns-5 : tie.Need-returns-5
+returns-5 c =
+    let k = c .before .before .before .before .before .before in
+    let n = k .before .before .before .before in
+    let i = n .before .before .before .before .before .before .before in
+    let b = i .before .before in
+    let d = b .before .before .before .before .before in
+    let h = is-ready d .due in
+    let o = due-own _ h ∙ sym (i .is-own .ensures) ∙ not-false _ (n .if4 .left) in
+    let p = n .before .before .before .before .before .pointers-at .ensures ∙ sym (due-pointers _ h) in
+    let s = n .before .before .before .count .ensures in
+    leaves-accepted _ _ _ _ _ _ _ (enough d) refl
+    (sets-on _ _ _ (λ (x : State). withIntake x (k .take .result)) _ s (c .before .before .settle .ensures))
+    (slot-settled _ _ _ _ _ _ _ _ _ (accepts d) (right b) o (s .state) (k .before .before .load-held .ensures) p (k .take .ensures))
 
 pub slot-spec : {M : Type 1} → statement M
 slot-spec =
     tie.close
     (tie.spec
-    refusal-requires
     returns
-    mul-is-wrong
-    element-copy-out-is-wrong
-    is-wrong-requires
+    (λ c κs. search needs)
+    (λ c. search needs)
     returns-2
-    count-requires
-    element-copy-out-if3
+    (λ c. search needs)
+    length-at-requires
+    (λ c κs. search needs)
+    (λ c. search needs)
     returns-3
-    mul-pointers
-    element-copy-out-pointers
+    is-own-requires
+    pointers-at-requires
+    count-requires
+    (λ c. search needs)
+    returns-4
+    (λ c κs. search needs)
     take-requires
     settle-requires
-    same-length
-    returns-4)
+    (λ c. search needs)
+    (λ c. search needs)
+    returns-5)

@@ -24,15 +24,6 @@ returns c =
     let e : min (c .before .before .before .before .args .n) 16 ≡ l .k = omega arith in
     rw e (sym (l .inv .2))
 
-mul-lookup : tie.Need-mul-lookup Inv-loop μ-loop
-mul-lookup c = omega arith
-
-array-read-lookup : tie.Need-array-read-lookup Inv-loop μ-loop
-array-read-lookup c = omega arith
-
-lookup-requires : tie.Need-lookup-requires Inv-loop μ-loop
-lookup-requires c κs = search needs
-
 enum-told : tie.Need-enum-told Inv-loop μ-loop
 enum-told c = search needs
 
@@ -41,15 +32,6 @@ unfolding twice
 returns-2 c =
     let h = c .before .before .lookup .ensures in
     sym (twice-hit _ _ _ (omega arith) (before-hit _ _ _ (sym h ∙ c .enum-told .given .1)))
-
-enum-told-2 : tie.Need-enum-told-2 Inv-loop μ-loop
-enum-told-2 c = search needs
-
-add-k : tie.Need-add-k Inv-loop μ-loop
-add-k c = omega arith
-
-loop-less : tie.Need-loop-less Inv-loop μ-loop
-loop-less c = omega arith
 
 loop-again : tie.Need-loop-again Inv-loop μ-loop
 loop-again c =
@@ -72,13 +54,13 @@ has-twice-spec =
     μ-loop
     loop-holds
     returns
-    mul-lookup
-    array-read-lookup
-    lookup-requires
+    (λ c. omega arith)
+    (λ c. omega arith)
+    (λ c κs. search needs)
     enum-told
     returns-2
-    enum-told-2
-    add-k
-    loop-less
+    (λ c. search needs)
+    (λ c. omega arith)
+    (λ c. omega arith)
     loop-again
     returns-3)

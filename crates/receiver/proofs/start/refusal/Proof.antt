@@ -16,9 +16,6 @@ returns-2 : tie.Need-returns-2
 unfolding startRefusal
 returns-2 c = rw (le-ltb _ _ (c .before .if1 .left), lt-ltb _ _ (c .if2 .taken))
 
-has-twice-requires : tie.Need-has-twice-requires
-has-twice-requires c κs = search needs
-
 returns-3 : tie.Need-returns-3
 unfolding startRefusal
 returns-3 c =
@@ -56,7 +53,7 @@ refusal-spec =
     (tie.spec
     returns
     returns-2
-    has-twice-requires
+    (λ c κs. search needs)
     returns-3
     returns-4
     returns-5

@@ -1,27 +1,39 @@
--- Why start meets its contract: accepted where there is no refusal.
-use mathlib.Core.Path.{sym, _∙_}
-use Rattle.receiver.specs.Start.{started, not-started}
+-- Why start meets its contract: too few words, accepted where there is no refusal, or refused.
+use mathlib.Core.List.{[]}
+use mathlib.Core.Path.{sym, _∙_, ap}
+use Rattle.receiver.specs.Leaves.{leaves-short, leaves-refused, leaves-accepted}
+use Rattle.receiver.specs.Start.{start-fresh, start-kept}
+use Rattle.receiver.specs.State.{Called}
 use borrow.Author.Needs.{needs}
 use Rattle.receiver.proofs.start.start.Statement.{statement}
 use Rattle.receiver.proofs.start.start.Tie as tie
 
+returns : tie.Need-returns
+returns c = leaves-short _ _ _ (c .if1 .taken)
+
 refusal-requires : tie.Need-refusal-requires
 refusal-requires c κs = search needs
 
-fresh-requires : tie.Need-fresh-requires
-fresh-requires c κs = search needs
+put-fresh-requires : tie.Need-put-fresh-requires
+put-fresh-requires c κs = search needs
 
-returns : tie.Need-returns
-returns c = rw (c .fresh .ensures) (sym (started _ (sym (c .before .before .refusal .ensures) ∙ c .before .if1 .taken)))
-
-fresh-requires-2 : tie.Need-fresh-requires-2
-fresh-requires-2 c κs = search needs
+same-length : tie.Need-same-length
+same-length c = search needs
 
 returns-2 : tie.Need-returns-2
 returns-2 c =
-    let e = c .before .before .refusal .ensures in
-    rw (c .fresh2 .ensures, e) (sym (not-started _ (rw e at (c .before .if1 .left))))
+    let f = c .before .before .before .before in
+    let z = f .if2 .taken in
+    leaves-accepted _ _ _ _ _ _ _ (f .before .before .if1 .left) z (c .before .before .put-fresh .ensures)
+    (ap (λ (x : Called). (x, [])) (start-fresh _ _ (sym (f .before .refusal .ensures) ∙ z)))
+
+returns-3 : tie.Need-returns-3
+returns-3 c =
+    let e = c .before .refusal .ensures in
+    leaves-refused _ _ _ _ (c .before .before .if1 .left)
+    (rw e (ap (λ (x : Called). (x, [])) (start-kept _ _ (rw e at (c .if2 .left)))))
 
 pub start-spec : {M : Type 1} → statement M
 start-spec =
-    tie.close (tie.spec refusal-requires fresh-requires returns fresh-requires-2 returns-2)
+    tie.close
+    (tie.spec returns refusal-requires put-fresh-requires same-length returns-2 returns-3)
