@@ -15,10 +15,9 @@ use Rattle.capture.specs.declared.command.Letter.{Letter}
 use Rattle.capture.specs.declared.command.Letter.the-variants.{Start, Frame, LostFrame, Slot, LostSlot, Unknown}
 use Rattle.capture.specs.declared.session.Phase.{Phase}
 use Rattle.capture.specs.declared.session.Phase.the-variants.{Before, Reading, Ended}
-use Rattle.capture.specs.declared.session.Session.{Session}
+use Rattle.capture.specs.Session.{Session, busy, isReading, isEnded, inPhase, withState}
 use Rattle.lines.specs.Line.{longestLine, refusedLine, field-21}
 use Rattle.lines.specs.Text.{wrote, wrote-none, wrote-end, length-wrote, wrote-append}
-use Rattle.capture.specs.Session.{busy, isReading, isEnded, inPhase, withState}
 use Rattle.capture.specs.Command.{longestCommand, letterOf, sizeOf, whole, size-by, slot-size-within, size-kept, size-grows, size-most}
 use Rattle.capture.specs.Command.{size-none}
 use Rattle.capture.specs.Capture.{Done, fits, callOf, afterCall, settled, doneOf, lastLine, textOf}

@@ -10,9 +10,8 @@ use Rattle.delivery.specs.declared.event.Event.{Event}
 use Rattle.delivery.specs.declared.event.Event.the-variants.{Nothing, Note, Unit, Refused}
 use Rattle.delivery.specs.Choice.{by-test}
 use Rattle.receiver.specs.Next.{nextOf}
-use Rattle.capture.specs.declared.session.Session.{Session}
+use Rattle.capture.specs.Session.{Session, isReading, busy, withState, withTally}
 use Rattle.lines.specs.Text.{wrote, wrote-none, wrote-end, length-wrote, wrote-append}
-use Rattle.capture.specs.Session.{isReading, busy, withState, withTally}
 use Rattle.lines.specs.Line.{longestLine, isLine}
 use Rattle.capture.specs.Waits.{waits}
 use Rattle.capture.specs.Capture.{Drained, behind, eventBy, eventLine, tallied, closed, drainedOf}

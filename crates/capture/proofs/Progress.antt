@@ -10,8 +10,7 @@ use lib.ListN.{length}
 use Rattle.delivery.specs.declared.event.Event.{Event}
 use Rattle.delivery.specs.Choice.{by-test}
 use Rattle.receiver.specs.Next.{nextOf}
-use Rattle.capture.specs.declared.session.Session.{Session}
-use Rattle.capture.specs.Session.{busy, withState, withTally}
+use Rattle.capture.specs.Session.{Session, busy, withState, withTally}
 use Rattle.lines.specs.Text.{wrote}
 use Rattle.lines.specs.Line.{longestLine, isLine}
 use Rattle.capture.specs.Waits.{waits, next-falls}

@@ -7,8 +7,7 @@ use native.Mathlib.Omega.{arith}
 use borrow.Author.Tests.{eqb-false, leb-true, not-true, ne-eqb, le-leb}
 use lib.ListN.{length, take, drop, length-drop}
 use lib.Dec.{eqb, leb}
-use Rattle.capture.specs.declared.session.Session.{Session}
-use Rattle.capture.specs.Session.{isEnded}
+use Rattle.capture.specs.Session.{Session, isEnded}
 use Rattle.capture.specs.Command.{sizeOf, whole}
 use Rattle.capture.specs.Capture.{Drained, behind, doneOf, drainedOf, reads, lastLine, textBy, textOf}
 

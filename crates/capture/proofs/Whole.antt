@@ -12,8 +12,7 @@ use Rattle.delivery.specs.declared.event.Event.{Event}
 use Rattle.receiver.specs.Next.{nextOf}
 use Rattle.lines.specs.Text.{wrote}
 use Rattle.lines.specs.Line.{isLine}
-use Rattle.capture.specs.declared.session.Session.{Session}
-use Rattle.capture.specs.Session.{busy, isEnded, withState, withTally, freshSession}
+use Rattle.capture.specs.Session.{Session, busy, isEnded, withState, withTally, freshSession}
 use Rattle.capture.specs.Command.{longestCommand, sizeOf}
 use Rattle.capture.specs.Waits.{waits, next-falls}
 use Rattle.capture.specs.Capture.{eventLine, tallied, lastLine, textOf, captureOf}

@@ -6,10 +6,8 @@ use lib.ListN.{length, getD, take, drop}
 use lib.Dec.{eqb}
 use Rattle.delivery.specs.declared.event.Event.{Event}
 use Rattle.delivery.specs.declared.event.Event.the-variants.{Nothing, Note, Unit, Refused}
-use Rattle.receiver.specs.declared.answer.Called.{Called}
-use Rattle.receiver.specs.declared.state.State.{State}
-use Rattle.receiver.specs.State.{withOwed, accepted}
-use Rattle.receiver.specs.Start.{startOf}
+use Rattle.receiver.specs.State.{Called, State, withOwed, accepted}
+use Rattle.receiver.specs.Start.{startFrom}
 use Rattle.receiver.specs.Frame.{frameOf, lostFrameOf}
 use Rattle.receiver.specs.Slot.{slotOf, lostSlotOf}
 use Rattle.receiver.specs.Next.{nextOf}
@@ -17,11 +15,10 @@ use Rattle.capture.specs.declared.command.Letter.{Letter}
 use Rattle.capture.specs.declared.command.Letter.the-variants.{Start, Frame, LostFrame, Slot, LostSlot, Unknown}
 use Rattle.capture.specs.declared.session.Phase.{Phase}
 use Rattle.capture.specs.declared.session.Phase.the-variants.{Before, Reading, Ended}
-use Rattle.capture.specs.declared.session.Session.{Session}
+use Rattle.capture.specs.Session.{Session, isEnded, busy, withState, inPhase, withTally, inFrame, inSlot, withUnit, withNote}
 use Rattle.capture.specs.declared.session.Tally.{Tally}
 use Rattle.lines.specs.Line.{isLine, unitLine, noteLine, refusedLine, endLine}
 use Rattle.capture.specs.Command.{letterOf, sizeOf, whole, configOf}
-use Rattle.capture.specs.Session.{isEnded, busy, withState, inPhase, withTally, inFrame, inSlot, withUnit, withNote}
 use Rattle.capture.specs.Session.{freshSession}
 use Rattle.capture.specs.Waits.{waits}
 
@@ -43,7 +40,7 @@ fits Ended l = false
 
 -- the call that a command b makes, and packet memory after it
 unfoldable pub callOf : Letter → State → List ℕ → List ℕ → List ℕ → Called × List ℕ
-callOf Start st p c b = (startOf (configOf b), p)
+callOf Start st p c b = (startFrom st (configOf b), p)
 callOf Frame st p c b = (frameOf st (drop 1 b), p)
 callOf LostFrame st p c b = (lostFrameOf st, p)
 callOf Slot st p c b = slotOf st p c (drop 3 b)

@@ -3,7 +3,7 @@ use Prim.Native.Nat.{ℕ, _+_, _<_, _≤_}
 use mathlib.Core.Path.{_≡_}
 use mathlib.Core.List.{List, _++_}
 use lib.ListN.{length, drop}
-use Rattle.capture.specs.declared.session.Session.{Session}
+use Rattle.capture.specs.Session.{Session}
 use Rattle.lines.specs.Text.{wrote}
 use Rattle.capture.specs.Command.{longestCommand, sizeOf}
 use Rattle.capture.specs.Capture.{drainedOf, behind, textOf}

@@ -9,7 +9,7 @@ use lib.ListN.{length, getD, take, drop, length-append, take-append-drop, List·
 use lib.Seq.{length-take-le}
 use lib.Dec.{eqb, ltb, leb}
 use Rattle.wire.specs.Field.{be, be-2}
-use Rattle.tmcc.specs.Count.{tab}
+use Rattle.wire.specs.Tab.{tab}
 use Rattle.reassembly.specs.declared.config.Config.{Config}
 use Rattle.capture.specs.declared.command.Letter.{Letter}
 use Rattle.capture.specs.declared.command.Letter.the-variants.{Start, Frame, LostFrame, Slot, LostSlot, Unknown}

@@ -5,8 +5,7 @@ use mathlib.Core.Bool.{false, cond}
 use mathlib.Core.List.{List, []}
 use native.Mathlib.Omega.{arith}
 use Rattle.receiver.specs.Next.{nextOf}
-use Rattle.capture.specs.declared.session.Session.{Session}
-use Rattle.capture.specs.Session.{busy, withState}
+use Rattle.capture.specs.Session.{Session, busy, withState}
 use Rattle.lines.specs.Line.{isLine}
 use Rattle.capture.specs.Waits.{waits, next-falls}
 use Rattle.capture.specs.Bounded.{same-on, enough}

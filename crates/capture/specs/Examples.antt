@@ -4,14 +4,15 @@ use mathlib.Core.Path.{_≡_, refl}
 use mathlib.Core.List.{List, [], _∷_, _++_}
 use lib.ListN.{replicate}
 use Rattle.wire.specs.Field.{be}
-use Rattle.tmcc.specs.Count.{tab, allBelow, countBelow, lastBelow}
+use Rattle.wire.specs.Tab.{tab}
+use Rattle.tmcc.specs.Count.{allBelow, countBelow, lastBelow}
 use Rattle.tmcc.specs.Mode.{dataBytes, within, used, unused, modeGood, slotsOf, modesGood}
 use Rattle.tmcc.specs.Block.{decodeOf}
 use Rattle.mmtp.specs.Watch.{firstFrom, lookupOf}
 use Rattle.reassembly.specs.Channel.{unheard}
 use Rattle.intake.specs.Slot.{lostOf}
 use Rattle.delivery.specs.Cursor.{left}
-use Rattle.receiver.specs.Start.{before, twiceBelow, twice, freshState, startRefusal, startOf}
+use Rattle.receiver.specs.Start.{before, twiceBelow, twice, freshState, startRefusal, startFrom}
 use Rattle.receiver.specs.Frame.{frameBusy, frameOf, lossOf, lostFrameOf}
 use Rattle.receiver.specs.Slot.{shortBy, slotRefusal, slotOf, lostSlotOf}
 use Rattle.receiver.specs.Next.{nextOf}
@@ -78,7 +79,7 @@ Captures =
 
 captures : Captures
 unfolding be tab allBelow countBelow lastBelow dataBytes within used unused modeGood slotsOf modesGood decodeOf firstFrom lookupOf
-    unheard lostOf before twiceBelow twice freshState startRefusal startOf frameBusy frameOf lossOf lostFrameOf shortBy slotRefusal
+    unheard lostOf before twiceBelow twice freshState startRefusal startFrom frameBusy frameOf lossOf lostFrameOf shortBy slotRefusal
     slotOf lostSlotOf nextOf digits decimal field refusedLine endLine letterOf slotSize sizeOf whole idsOf configOf freshSession
     queueWaits cursorWaits waitsBy left callOf afterCall doneOf eventLine tallied closed drainedBy drainedOf textBy textOf
     captureOf

@@ -12,12 +12,9 @@ use lib.Dec.{eqb, ltb}
 use Rattle.wire.specs.Memory.{pasted, length-pasted}
 use Rattle.delivery.specs.Choice.{by-test}
 use Rattle.delivery.specs.Within.{pasted-take}
-use Rattle.capture.specs.declared.feed.Fed.{Fed}
+use Rattle.capture.specs.Session.{Fed, Progress, Session, busy, isEnded}
 use Rattle.capture.specs.declared.feed.Turn.{Turn}
-use Rattle.capture.specs.declared.session.Progress.{Progress}
-use Rattle.capture.specs.declared.session.Session.{Session}
 use Rattle.capture.specs.Command.{longestCommand, sizeOf, size-none, size-grows, size-kept, front-whole}
-use Rattle.capture.specs.Session.{busy, isEnded}
 use Rattle.capture.specs.Steps.{roomy, actedOf, pouredOf}
 
 -- the bytes of a command that is not whole yet

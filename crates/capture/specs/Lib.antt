@@ -2,8 +2,10 @@
 pub mod Command
 pub mod Session
 pub mod Waits
+pub mod Paid
 pub mod Bounded
 pub mod Capture
+pub mod Words
 pub mod Drains
 pub mod Steps
 pub mod Feed

@@ -7,8 +7,7 @@ use mathlib.Core.List.{List, [], _++_}
 use lib.ListN.{length, take, drop}
 use Rattle.lines.specs.Text.{wrote}
 use Rattle.capture.specs.Command.{longestCommand}
-use Rattle.capture.specs.declared.session.Session.{Session}
-use Rattle.capture.specs.Session.{busy, isEnded, freshSession}
+use Rattle.capture.specs.Session.{Session, busy, isEnded, freshSession}
 use Rattle.capture.specs.Capture.{lastLine, captureOf}
 use Rattle.capture.specs.Steps.{Poured, roomy, pouredOf}
 use Rattle.capture.specs.Feed.{FeedLeaves, fedOf}

@@ -8,8 +8,7 @@ use mathlib.Core.Logic.{_⊎_}
 use lib.ListN.{length}
 use Rattle.lines.specs.Line.{longestLine}
 use Rattle.capture.specs.Command.{longestCommand}
-use Rattle.capture.specs.declared.session.Session.{Session}
-use Rattle.capture.specs.Session.{busy, isEnded}
+use Rattle.capture.specs.Session.{Session, busy, isEnded}
 use Rattle.capture.specs.Waits.{waits}
 use Rattle.capture.specs.Steps.{Poured, pouredOf}
 use Rattle.capture.specs.Feed.{fedOf}

@@ -1,12 +1,50 @@
--- Parts of a session, set; and counts.
+-- A session, as the definitions speak of it: what a capture's commands have come to; its parts, set; and counts.
 use Prim.Native.Nat.{ℕ, _+_, _%_, _^_}
 use mathlib.Core.Bool.{Bool, true, false, _&&_}
-use Rattle.receiver.specs.declared.state.State.{State}
+use mathlib.Core.List.{List}
+use Rattle.receiver.specs.State.{State}
 use Rattle.receiver.specs.Start.{freshState, blankConfig}
 use Rattle.capture.specs.declared.session.Phase.{Phase}
 use Rattle.capture.specs.declared.session.Phase.the-variants.{Before, Reading, Ended}
 use Rattle.capture.specs.declared.session.Tally.{Tally}
-use Rattle.capture.specs.declared.session.Session.{Session}
+use Rattle.capture.specs.declared.session.Session.{Session as Values}
+use Rattle.capture.specs.declared.session.Progress.{Progress as ValuesProgress}
+use Rattle.capture.specs.declared.feed.Fed.{Fed as ValuesFed}
+use Rattle.receiver.specs.Words.{stateIn}
+
+pub record Session : Type 0 where
+  pub phase : Phase
+  pub state : State
+  pub tally : Tally
+
+-- the session, and the place behind what was written
+pub record Progress : Type 0 where
+  pub session : Session
+  pub at : ℕ
+
+-- what a block leaves
+pub record Fed : Type 0 where
+  pub session : Session
+  -- how many bytes of a command that is not whole yet stand in the command memory
+  pub held : ℕ
+  -- how many bytes of the block were read
+  pub read : ℕ
+  -- how many bytes of text were written
+  pub written : ℕ
+
+-- with the receiver's state, which the state memory t has
+abbrev pub sessionIn : Values → List ℕ → Session
+sessionIn s t = record { phase = s .phase; state = stateIn t; tally = s .tally }
+
+abbrev pub progressIn : ValuesProgress → List ℕ → Progress
+progressIn r t = record { session = sessionIn (r .session) t; at = r .at }
+
+abbrev pub fedIn : ValuesFed → List ℕ → Fed
+fedIn r t = record { session = sessionIn (r .session) t; held = r .held; read = r .read; written = r .written }
+
+-- the end of a session, beside the state memory
+abbrev pub ended : Values → Values
+ended s = record { phase = Ended; tally = s .tally }
 
 -- counts have 64 bits
 abbrev pub more : ℕ → ℕ
@@ -47,6 +85,10 @@ withState s st = record { phase = s .phase; state = st; tally = s .tally }
 
 abbrev pub withTally : Session → Tally → Session
 withTally s t = record { phase = s .phase; state = s .state; tally = t }
+
+-- nothing read, beside the state memory
+abbrev pub freshValues : Values
+freshValues = record { phase = Before; tally = record { frames = 0; slot = 0; units = 0; notes = 0 } }
 
 -- nothing read
 unfoldable pub freshSession : Session

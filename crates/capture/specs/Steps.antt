@@ -8,20 +8,20 @@ use borrow.Author.Tests.{eq-eqb, ne-eqb}
 use lib.ListN.{length, getD}
 use lib.Dec.{leb}
 use Rattle.delivery.specs.declared.event.Event.{Event}
-use Rattle.receiver.specs.declared.answer.Called.{Called}
+use Rattle.delivery.specs.declared.event.Event.the-variants.{Nothing}
+use Rattle.receiver.specs.State.{Called}
 use Rattle.receiver.specs.Slot.{shortBy}
 use Rattle.receiver.specs.Next.{NextOut, readAll, nextOf, next-short, next-reads}
-use Rattle.receiver.specs.ReadOn.{next-calm}
+use Rattle.receiver.specs.ReadOn.{next-calm, next-config}
 use Rattle.capture.specs.declared.command.Letter.{Letter}
 use Rattle.capture.specs.declared.session.Phase.the-variants.{Ended}
-use Rattle.capture.specs.declared.session.Progress.{Progress}
-use Rattle.capture.specs.declared.session.Session.{Session}
+use Rattle.capture.specs.Session.{Progress, Session, isReading, busy, inPhase, withState, withTally}
 use Rattle.capture.specs.declared.session.Tally.{Tally}
 use Rattle.lines.specs.Text.{wrote, wrote-none}
 use Rattle.lines.specs.Line.{longestLine, isLine, refusedLine}
 use Rattle.capture.specs.Command.{letterOf}
-use Rattle.capture.specs.Session.{isReading, busy, inPhase, withState, withTally}
 use Rattle.capture.specs.Waits.{waits, next-falls, next-owes}
+use Rattle.capture.specs.Paid.{read-paid}
 use Rattle.capture.specs.Bounded.{same-on, enough}
 use Rattle.capture.specs.Capture.{fits, callOf, afterCall, doneOf, eventLine, tallied, closed, lastLine}
 
@@ -156,6 +156,14 @@ module _ (s : Session) (p c : List ℕ) (d : Drains s (length p) (length c)) (o 
   next-read : nextOf (s .state) p c ≡ o
   next-read =
       next-reads (s .state) p c (d .long) (and-eq-true-iff (isReading (s .phase)) (s .state .owed) .0 (d .owed) .1) ∙ sym e
+
+  -- the configuration stays
+  pub drains-config : o .0 .state .config ≡ s .state .config
+  drains-config = rw next-read at (next-config (s .state) p c)
+
+  -- where nothing waits, next is owed no more
+  pub drains-paid : o .0 .event ≡ Nothing → o .0 .state .owed ≡ false
+  drains-paid = rw (← e) at (read-paid p (s .state) c)
 
   module _ (i : isLine (o .0 .event) ≡ true) where
     pub drains-on : Drains stepped (length p) (length (o .1))

@@ -18,11 +18,7 @@ use Rattle.mmtp.specs.declared.unit.Step.the-variants.{Unit as UnitAt, Malforme
 use Rattle.mmtp.specs.Cases.{chose, chose-not}
 use Rattle.mmtp.specs.Unit.{unitAt, dataUnit, unitFits, unit-fits-end}
 use Rattle.intake.specs.declared.held.Cursor.{Cursor}
-use Rattle.delivery.specs.declared.queue.Aggregate.{Aggregate}
-use Rattle.delivery.specs.declared.queue.Give.{Give}
-use Rattle.delivery.specs.declared.queue.Give.the-variants.{Nothing, One, Many}
-use Rattle.delivery.specs.declared.queue.Queue.{Queue}
-use Rattle.delivery.specs.declared.queue.Taken.{Taken}
+use Rattle.delivery.specs.Waiting.{Aggregate, Give, Nothing, One, Many, Queue, Taken}
 use Rattle.delivery.specs.declared.cursor.Found.{Found}
 use Rattle.delivery.specs.declared.cursor.Found.the-variants.{Event, Packet, Tail, Done}
 use Rattle.delivery.specs.declared.cursor.Advanced.{Advanced}
@@ -32,8 +28,7 @@ use Rattle.delivery.specs.Cursor.{one, span, left, isEvent, goesOn, advancedOf,
 use Rattle.delivery.specs.Cursor.{turn-on, advanced-less, advanced-note, advanced-packet, advanced-slot, advanced-done}
 use Rattle.delivery.specs.Cursor.{slot-packet, slot-tail}
 use Rattle.intake.specs.Slot.{holding}
-use Rattle.receiver.specs.declared.state.State.{State}
-use Rattle.receiver.specs.State.{withSlot}
+use Rattle.receiver.specs.State.{State, withSlot}
 use Rattle.receiver.specs.Slot.{shortBy}
 use Rattle.receiver.specs.Next.{NextOut, past, onwards, packetOf, readOn, readAll, nextOf, next-short, next-idle, next-reads}
 use Rattle.receiver.specs.ReadOn.{packet-kept}

@@ -6,7 +6,8 @@ use mathlib.Core.List.{List, [], _∷_, _++_}
 use lib.ListN.{replicate}
 use Rattle.wire.specs.Field.{be}
 use Rattle.wire.specs.Memory.{pasted, partOf}
-use Rattle.tmcc.specs.Count.{tab, allBelow, countBelow, lastBelow}
+use Rattle.wire.specs.Tab.{tab}
+use Rattle.tmcc.specs.Count.{allBelow, countBelow, lastBelow}
 use Rattle.tmcc.specs.Mode.{dataBytes, within, used, unused, modeGood, slotsOf, modesGood, modeFrom, modeOf, slotLength}
 use Rattle.tmcc.specs.Stream.{chosen, relativeStream, ownSlot}
 use Rattle.tmcc.specs.Layout.{pointersAt, layoutOf, blankLayout}
@@ -27,7 +28,7 @@ use Rattle.intake.specs.Slot.{cursorFrom, resumedAs, movedMem, continuedMem, re
 use Rattle.delivery.specs.Packet.{arrivedAt, firstUnit, collected, giveOf, joinedOf}
 use Rattle.delivery.specs.Queue.{eventTaken}
 use Rattle.delivery.specs.Cursor.{turnOf, advancedOf, slotAdvanced, tailAdvanced, left}
-use Rattle.receiver.specs.Start.{before, twiceBelow, twice, freshState, startRefusal, startOf}
+use Rattle.receiver.specs.Start.{before, twiceBelow, twice, freshState, startRefusal, startFrom}
 use Rattle.receiver.specs.Frame.{frameBusy, frameOf, lossOf, lostFrameOf}
 use Rattle.receiver.specs.Slot.{shortBy, slotRefusal, counted, wrongLength, slotOf, lostSlotOf}
 use Rattle.receiver.specs.Next.{packetOf, readOn, readAll, nextOf}
@@ -81,7 +82,7 @@ unfolding be pasted partOf tab allBelow countBelow lastBelow dataBytes within us
     aggregationFits unitsFit tested payloadOf fieldBytes fieldsOf singleFits singleUnit singleAt nextPsn heard gap unheard
     interrupted begun acted joinOf cursorFrom resumedAs movedMem continuedMem resumedMem copied resumedOf intakeOf lostOf
     arrivedAt firstUnit collected giveOf joinedOf eventTaken turnOf advancedOf slotAdvanced tailAdvanced left before twiceBelow
-    twice freshState startRefusal startOf frameBusy frameOf lossOf lostFrameOf shortBy slotRefusal counted wrongLength slotOf
+    twice freshState startRefusal startFrom frameBusy frameOf lossOf lostFrameOf shortBy slotRefusal counted wrongLength slotOf
     lostSlotOf packetOf readOn readAll nextOf digits decimal field placeText carriedText unitLine idText noteLine refusedLine
     endLine letterOf slotSize sizeOf whole idsOf configOf freshSession queueWaits cursorWaits waitsBy callOf afterCall doneOf
     eventLine tallied closed drainedBy drainedOf textBy textOf captureOf

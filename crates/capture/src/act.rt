@@ -1,10 +1,14 @@
 // A whole command, carried out.
 ghost use mathlib.Core.Path.{_≡_};
-ghost use Prim.Native.Nat.{_+_, _≤_, _<_};
+ghost use mathlib.Core.List.{List};
+ghost use Prim.Native.Nat.{ℕ, _+_, _≤_, _<_};
 ghost use lib.ListN.{length};
 ghost use Rattle.capture.specs.Command.{sizeBy, sizeOf};
 ghost use Rattle.capture.specs.Capture.{fits, callOf, afterCall};
+ghost use Rattle.receiver.specs.Words.{stateWords, stateIn};
+ghost use Rattle.capture.specs.Session.{sessionIn};
 ghost use Rattle.capture.specs.Steps.{actedOf};
+ghost use Rattle.capture.specs.Words.{Calls, Acts};
 use crate::command::Letter;
 use crate::command::config;
 use crate::command::letter_of;
@@ -14,8 +18,7 @@ use crate::session::Session;
 use crate::session::Tally;
 use crate::session::end;
 use lines::line::put_refused;
-use receiver::answer::Called;
-use receiver::state::State;
+use receiver::words::due;
 
 // Whether the command may stand here: C first and once.
 pub fn is_fit(phase: Phase, letter: Letter) -> bool
@@ -43,30 +46,27 @@ pub fn is_fit(phase: Phase, letter: Letter) -> bool
 }
 
 // The call that a command makes.
-fn call(letter: Letter, st: State, packet: &mut [u8], collecting: &[u8], b: &[u8]) -> Called
-    requires { ⌜ (1 ≤ length (now b)) × (sizeBy letter (now b) ≤ length (now b)) ⌝ }
-    ensures { λ r. ⌜ (r, now (packet .exit))
-        ≡ callOf letter st (now (packet .entry)) (now (collecting .entry)) (now (b .entry)) ⌝ }
+fn call(letter: Letter, words: &mut [u64], packet: &mut [u8], collecting: &[u8], b: &[u8]) -> u8
+    requires { ⌜ (stateWords ≤ length (now words)) × (1 ≤ length (now b)) × (sizeBy letter (now b) ≤ length (now b)) ⌝ }
+    ensures { λ r. ⌜ Calls (now (words .entry)) r (now (words .exit)) (now (packet .exit))
+        (callOf letter (stateIn (now (words .entry))) (now (packet .entry)) (now (collecting .entry)) (now (b .entry))) ⌝ }
 {
     match letter {
         Letter::Start => {
             let config = config(b);
-            receiver::start::start(config)
+            receiver::start::start(config, words)
         }
-        Letter::Frame => receiver::frame::frame(st, &b[1..]),
-        Letter::LostFrame => receiver::frame::lost_frame(st),
-        Letter::Slot => receiver::slot::slot(st, packet, collecting, &b[3..]),
-        Letter::LostSlot => receiver::slot::lost_slot(st, packet, collecting),
-        Letter::Unknown => Called {
-            refusal: 0,
-            state: st,
-        },
+        Letter::Frame => receiver::frame::frame(words, &b[1..]),
+        Letter::LostFrame => receiver::frame::lost_frame(words),
+        Letter::Slot => receiver::slot::slot(words, packet, collecting, &b[3..]),
+        Letter::LostSlot => receiver::slot::lost_slot(words, packet, collecting),
+        Letter::Unknown => 0,
     }
 }
 
 // Another frame.
 fn next_frame(session: Session) -> Session
-    ensures { λ r. ⌜ r ≡ afterCall Letter.Frame session ⌝ }
+    ensures { λ r. ⌜ ((t : List ℕ) → sessionIn r t ≡ afterCall Letter.Frame (sessionIn session t)) ⌝ }
 {
     let before = session.tally;
     let frames = std::num::wrapping_add_u64(before.frames, 1);
@@ -79,19 +79,19 @@ fn next_frame(session: Session) -> Session
 }
 
 // The slot that was due.
-fn next_slot(session: Session) -> Session
-    ensures { λ r. ⌜ r ≡ afterCall Letter.Slot session ⌝ }
+fn next_slot(session: Session, words: &[u64]) -> Session
+    requires { ⌜ stateWords ≤ length (now words) ⌝ }
+    ensures { λ r. ⌜ sessionIn r (now (words .entry)) ≡ afterCall Letter.Slot (sessionIn session (now (words .entry))) ⌝ }
 {
-    let state = session.state;
-    let frame = state.frame;
-    let slot = frame.at as u64;
+    let slot = due(words);
     let before = session.tally;
     let tally = Tally { slot, ..before };
     Session { tally, ..session }
 }
 
-fn after_call(letter: Letter, session: Session) -> Session
-    ensures { λ r. ⌜ r ≡ afterCall letter session ⌝ }
+fn after_call(letter: Letter, session: Session, words: &[u64]) -> Session
+    requires { ⌜ stateWords ≤ length (now words) ⌝ }
+    ensures { λ r. ⌜ sessionIn r (now (words .entry)) ≡ afterCall letter (sessionIn session (now (words .entry))) ⌝ }
 {
     match letter {
         Letter::Start => Session {
@@ -100,8 +100,8 @@ fn after_call(letter: Letter, session: Session) -> Session
         },
         Letter::Frame => next_frame(session),
         Letter::LostFrame => next_frame(session),
-        Letter::Slot => next_slot(session),
-        Letter::LostSlot => next_slot(session),
+        Letter::Slot => next_slot(session, words),
+        Letter::LostSlot => next_slot(session, words),
         Letter::Unknown => session,
     }
 }
@@ -109,15 +109,18 @@ fn after_call(letter: Letter, session: Session) -> Session
 // Carries out a whole command; a refusal or an unknown command ends the session.
 pub fn act(
     session: Session,
+    words: &mut [u64],
     packet: &mut [u8],
     collecting: &[u8],
     b: &[u8],
     out: &mut [u8],
     at: usize,
 ) -> Progress
-    requires { ⌜ (1 ≤ length (now b)) × (sizeOf (now b) ≤ length (now b)) × (at + 29 ≤ length (now out)) ⌝ }
-    ensures { λ r. ⌜ (r, now (packet .exit), now (out .exit))
-        ≡ actedOf session (now (packet .entry)) (now (collecting .entry)) (now (b .entry)) (now (out .entry)) at ⌝ }
+    requires { ⌜ (stateWords ≤ length (now words)) × (1 ≤ length (now b)) × (sizeOf (now b) ≤ length (now b))
+        × (at + 29 ≤ length (now out)) ⌝ }
+    ensures { λ r. ⌜ Acts (now (words .entry)) r (now (words .exit)) (now (packet .exit)) (now (out .exit))
+        (actedOf (sessionIn session (now (words .entry))) (now (packet .entry)) (now (collecting .entry)) (now (b .entry))
+        (now (out .entry)) at) ⌝ }
 {
     let letter = letter_of(b[0]);
     let phase = session.phase;
@@ -125,15 +128,12 @@ pub fn act(
         let session = end(session);
         return Progress { session, at };
     }
-    let st = session.state;
-    let called = call(letter, st, packet, collecting, b);
-    let state = called.state;
-    let next = Session { state, ..session };
-    if called.refusal == 0 {
-        let session = after_call(letter, next);
+    let refusal = call(letter, words, packet, collecting, b);
+    if refusal == 0 {
+        let session = after_call(letter, session, words);
         return Progress { session, at };
     }
-    let at = put_refused(out, at, called.refusal);
-    let session = end(next);
+    let at = put_refused(out, at, refusal);
+    let session = end(session);
     Progress { session, at }
 }

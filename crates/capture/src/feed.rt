@@ -4,7 +4,9 @@ ghost use Prim.Native.Nat.{min, _+_, _≤_};
 ghost use lib.ListN.{length};
 ghost use Rattle.lines.specs.Line.{longestLine};
 ghost use Rattle.capture.specs.Command.{longestCommand};
-ghost use Rattle.capture.specs.Session.{isEnded};
+ghost use Rattle.receiver.specs.Words.{stateWords};
+ghost use Rattle.capture.specs.Session.{isEnded, sessionIn};
+ghost use Rattle.capture.specs.Words.{Runs, Feeds};
 ghost use Rattle.capture.specs.Feed.{wantedOf, keptOf, Keeps, wholeSize, gatheredOf, bytesTaken, sourceOf, ranOf, goesBy, fedOf};
 use crate::act::act;
 use crate::command::size;
@@ -14,6 +16,7 @@ use crate::pour::pour;
 use crate::session::Phase;
 use crate::session::Progress;
 use crate::session::Session;
+use receiver::words::STATE_WORDS;
 
 // The longest command: S, its length, and 65,535 bytes.
 const LONGEST_COMMAND: usize = 65538;
@@ -145,22 +148,24 @@ fn source<'a>(
 fn run(
     session: Session,
     b: &[u8],
+    words: &mut [u64],
     packet: &mut [u8],
     collecting: &mut [u8],
     out: &mut [u8],
     at: usize,
 ) -> Progress
-    requires { ⌜ (1 ≤ length (now b)) × (at + longestLine ≤ length (now out)) ⌝ }
-    ensures { λ r. ⌜ (r, now (packet .exit), now (collecting .exit), now (out .exit))
-        ≡ ranOf session (now (b .entry)) (now (packet .entry)) (now (collecting .entry)) (now (out .entry)) at ⌝ }
+    requires { ⌜ (stateWords ≤ length (now words)) × (1 ≤ length (now b)) × (at + longestLine ≤ length (now out)) ⌝ }
+    ensures { λ r. ⌜ Runs (now (words .entry)) r (now (words .exit)) (now (packet .exit)) (now (collecting .exit)) (now (out .exit))
+        (ranOf (sessionIn session (now (words .entry))) (now (b .entry)) (now (packet .entry)) (now (collecting .entry))
+        (now (out .entry)) at) ⌝ }
 {
     let n = size(b);
     if b.len() < n {
         return Progress { session, at };
     }
-    let acted = act(session, packet, collecting, b, out, at);
+    let acted = act(session, words, packet, collecting, b, out, at);
     let next = acted.session;
-    pour(next, packet, collecting, out, acted.at)
+    pour(next, words, packet, collecting, out, acted.at)
 }
 
 pub fn is_ended(phase: Phase) -> bool
@@ -174,8 +179,16 @@ pub fn is_ended(phase: Phase) -> bool
 }
 
 // Whether another command is read: bytes are left, there is room for a line, and the session neither ended nor owes next.
-fn goes_on(session: Session, read: usize, size: usize, written: usize, room: usize) -> bool
-    ensures { λ r. ⌜ r ≡ goesBy session read size written room ⌝ }
+fn goes_on(
+    session: Session,
+    words: &[u64],
+    read: usize,
+    size: usize,
+    written: usize,
+    room: usize,
+) -> bool
+    requires { ⌜ stateWords ≤ length (now words) ⌝ }
+    ensures { λ r. ⌜ r ≡ goesBy (sessionIn session (now (words .entry))) read size written room ⌝ }
 {
     if size <= read {
         return false;
@@ -183,7 +196,7 @@ fn goes_on(session: Session, read: usize, size: usize, written: usize, room: usi
     if !has_room(room, written) {
         return false;
     }
-    if is_busy(session) {
+    if is_busy(session, words) {
         return false;
     }
     let phase = session.phase;
@@ -191,20 +204,30 @@ fn goes_on(session: Session, read: usize, size: usize, written: usize, room: usi
 }
 
 // Reads commands from a block until it is used up, or there is no room for a line, or the session ends or owes next. With a command
-// memory under 65,538 bytes it reads nothing.
+// memory under 65,538 bytes, or a state memory under 751 words, it reads nothing.
 pub fn feed(
     session: Session,
     held: usize,
     command: &mut [u8],
     block: &[u8],
+    words: &mut [u64],
     packet: &mut [u8],
     collecting: &mut [u8],
     out: &mut [u8],
 ) -> Fed
-    ensures { λ r. ⌜ (r, now (command .exit), now (packet .exit), now (collecting .exit), now (out .exit))
-        ≡ fedOf session held (now (command .entry)) (now (block .entry)) (now (packet .entry)) (now (collecting .entry))
-        (now (out .entry)) ⌝ }
+    ensures { λ r. ⌜ Feeds session held (now (words .entry)) (now (command .entry)) (now (packet .entry)) (now (collecting .entry))
+        (now (out .entry)) r (now (words .exit)) (now (command .exit)) (now (packet .exit)) (now (collecting .exit)) (now (out .exit))
+        (fedOf (sessionIn session (now (words .entry))) held (now (command .entry)) (now (block .entry)) (now (packet .entry))
+        (now (collecting .entry)) (now (out .entry))) ⌝ }
 {
+    if words.len() < STATE_WORDS {
+        return Fed {
+            session,
+            held,
+            read: 0,
+            written: 0,
+        };
+    }
     if command.len() < LONGEST_COMMAND {
         return Fed {
             session,
@@ -217,11 +240,11 @@ pub fn feed(
     let mut kept = keep(command, held);
     let mut read = 0;
     let mut written = 0;
-    while goes_on(next, read, block.len(), written, out.len()) {
+    while goes_on(next, words, read, block.len(), written, out.len()) {
         let turn = take_bytes(command, kept, block, read);
         let end = read + turn.took;
         let b = source(command, turn.gathered, block, read, end);
-        let ran = run(next, b, packet, collecting, out, written);
+        let ran = run(next, b, words, packet, collecting, out, written);
         next = ran.session;
         written = ran.at;
         kept = keep(command, turn.gathered);

@@ -1,6 +1,6 @@
 // The first session and the last line.
 ghost use mathlib.Core.Path.{_≡_};
-ghost use Rattle.capture.specs.Session.{freshSession};
+ghost use Rattle.capture.specs.Words.{Begins};
 ghost use Rattle.capture.specs.Steps.{finishedOf};
 use crate::pour::has_room;
 use crate::session::Phase;
@@ -10,20 +10,23 @@ use lines::line::put_end;
 use mmtp::watch::Watch;
 use reassembly::config::Config;
 use reassembly::config::Rules;
+use receiver::start::put_fresh;
+use receiver::words::STATE_WORDS;
 
-// Nothing read: the state that comes back beside a refusal of start.
-pub fn begin() -> Session
-    ensures { λ r. ⌜ r ≡ freshSession ⌝ }
+// Nothing read. A state memory under 751 words is left as it is: then nothing will be read.
+pub fn begin(words: &mut [u64]) -> Session
+    ensures { λ r. ⌜ Begins (now (words .entry)) r (now (words .exit)) ⌝ }
 {
-    let watch = Watch { ids: [0; 16], n: 0 };
-    let blank = Config {
-        stream: 0,
-        cid: 0,
-        watch,
-        rules: Rules { limit: 0 },
-    };
-    let called = receiver::start::start(blank);
-    let state = called.state;
+    if STATE_WORDS <= words.len() {
+        let watch = Watch { ids: [0; 16], n: 0 };
+        let blank = Config {
+            stream: 0,
+            cid: 0,
+            watch,
+            rules: Rules { limit: 0 },
+        };
+        put_fresh(words, blank);
+    }
     let tally = Tally {
         frames: 0,
         slot: 0,
@@ -32,7 +35,6 @@ pub fn begin() -> Session
     };
     Session {
         phase: Phase::Before,
-        state,
         tally,
     }
 }

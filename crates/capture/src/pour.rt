@@ -4,8 +4,10 @@ ghost use Prim.Native.Nat.{_+_, _≤_};
 ghost use lib.ListN.{length};
 ghost use Rattle.lines.specs.Line.{longestLine};
 ghost use Rattle.lines.specs.Text.{Put};
-ghost use Rattle.capture.specs.Session.{busy, withState, withTally};
-ghost use Rattle.capture.specs.Capture.{eventLine, tallied, closed};
+ghost use Rattle.receiver.specs.Words.{stateWords};
+ghost use Rattle.capture.specs.Session.{busy, sessionIn};
+ghost use Rattle.capture.specs.Capture.{eventLine, tallied};
+ghost use Rattle.capture.specs.Words.{closedValues, Pours, PoursOr};
 ghost use Rattle.capture.specs.Steps.{roomy, Drains, pouredOf};
 use crate::session::Phase;
 use crate::session::Progress;
@@ -18,8 +20,11 @@ use lines::line::is_line;
 use lines::line::put_note;
 use lines::line::put_refused;
 use lines::line::put_unit;
+use reassembly::words::load_config;
 use receiver::next::read_on;
-use receiver::state::State;
+use receiver::words::CONFIG;
+use receiver::words::STATE_WORDS;
+use receiver::words::is_owed;
 
 // Whether there is room for a longest line from `at` on.
 pub fn has_room(size: usize, at: usize) -> bool
@@ -32,14 +37,14 @@ pub fn has_room(size: usize, at: usize) -> bool
 }
 
 // Whether next is owed.
-pub fn is_busy(session: Session) -> bool
-    ensures { λ r. ⌜ r ≡ busy session ⌝ }
+pub fn is_busy(session: Session, words: &[u64]) -> bool
+    requires { ⌜ stateWords ≤ length (now words) ⌝ }
+    ensures { λ r. ⌜ r ≡ busy (sessionIn session (now (words .entry))) ⌝ }
 {
-    let state = session.state;
     let phase = session.phase;
     match phase {
         Phase::Before => false,
-        Phase::Reading => state.owed,
+        Phase::Reading => is_owed(words),
         Phase::Ended => false,
     }
 }
@@ -75,37 +80,29 @@ pub fn count(tally: Tally, event: Event) -> Tally
 
 // The session after an event that is no line.
 pub fn close(session: Session, event: Event) -> Session
-    ensures { λ r. ⌜ r ≡ closed session event ⌝ }
+    ensures { λ r. ⌜ r ≡ closedValues session event ⌝ }
 {
     match event {
-        Event::Nothing => {
-            let mut state = session.state;
-            state.owed = false;
-            Session { state, ..session }
-        }
+        Event::Nothing => session,
         Event::Note(_, _) => session,
         Event::Unit(_) => session,
         Event::Refused(_) => end(session),
     }
 }
 
-// Where reading on stops: the session with the state and the counts that it has come to.
-fn stop(session: Session, state: State, tally: Tally, at: usize) -> Progress
-    ensures { λ r. ⌜ r ≡ record { session = withTally (withState session state) tally; at = at } ⌝ }
+// Where reading on stops: the session with the counts that it has come to.
+fn stop(session: Session, tally: Tally, at: usize) -> Progress
+    ensures { λ r. ⌜ r ≡ record { session = record { phase = session .phase; tally = tally }; at = at } ⌝ }
 {
-    let session = Session {
-        state,
-        tally,
-        ..session
-    };
+    let session = Session { tally, ..session };
     Progress { session, at }
 }
 
 // The same after an event that is no line.
-fn stop_after(session: Session, state: State, tally: Tally, at: usize, event: Event) -> Progress
-    ensures { λ r. ⌜ r ≡ record { session = closed (withTally (withState session state) tally) event; at = at } ⌝ }
+fn stop_after(session: Session, tally: Tally, at: usize, event: Event) -> Progress
+    ensures { λ r. ⌜ r ≡ record { session = closedValues (record { phase = session .phase; tally = tally }) event; at = at } ⌝ }
 {
-    let stopped = stop(session, state, tally, at);
+    let stopped = stop(session, tally, at);
     let last = stopped.session;
     let session = close(last, event);
     Progress { session, at }
@@ -114,54 +111,57 @@ fn stop_after(session: Session, state: State, tally: Tally, at: usize, event: Ev
 // Reads on from event to event. What `next` tests first, that it is owed and has room, holds throughout: so `read_on`, not `next`.
 fn drain(
     session: Session,
+    words: &mut [u64],
     packet: &[u8],
     collecting: &mut [u8],
     out: &mut [u8],
     at: usize,
 ) -> Progress
-    requires { ⌜ Drains session (length (now packet)) (length (now collecting)) ⌝ }
-    ensures { λ r. ⌜ (r, now (collecting .exit), now (out .exit))
-        ≡ pouredOf session (now (packet .entry)) (now (collecting .entry)) (now (out .entry)) at ⌝ }
+    requires { ⌜ (stateWords ≤ length (now words))
+        × Drains (sessionIn session (now words)) (length (now packet)) (length (now collecting)) ⌝ }
+    ensures { λ r. ⌜ Pours (now (words .entry)) r (now (words .exit)) (now (collecting .exit)) (now (out .exit))
+        (pouredOf (sessionIn session (now (words .entry))) (now (packet .entry)) (now (collecting .entry)) (now (out .entry)) at) ⌝ }
 {
-    let mut next = session.state;
+    let config = load_config(words, CONFIG);
     let mut tally = session.tally;
     let mut place = at;
     while has_room(out.len(), place) {
-        let answer = read_on(next, packet, collecting);
-        next = answer.state;
-        let event = answer.event;
+        let event = read_on(config, words, packet, collecting);
         place = put_event(out, place, tally, event);
         tally = count(tally, event);
         if !is_line(event) {
-            return stop_after(session, next, tally, place, event);
+            return stop_after(session, tally, place, event);
         }
     }
-    stop(session, next, tally, place)
+    stop(session, tally, place)
 }
 
-// Calls next until nothing waits or there is no room, and writes its lines.
+// Calls next until nothing waits or there is no room, and writes its lines. With a state memory under 751 words it does nothing.
 pub fn pour(
     session: Session,
+    words: &mut [u64],
     packet: &[u8],
     collecting: &mut [u8],
     out: &mut [u8],
     at: usize,
 ) -> Progress
-    ensures { λ r. ⌜ (r, now (collecting .exit), now (out .exit))
-        ≡ pouredOf session (now (packet .entry)) (now (collecting .entry)) (now (out .entry)) at ⌝ }
+    ensures { λ r. ⌜ PoursOr session at (now (words .entry)) (now (collecting .entry)) (now (out .entry))
+        r (now (words .exit)) (now (collecting .exit)) (now (out .exit))
+        (pouredOf (sessionIn session (now (words .entry))) (now (packet .entry)) (now (collecting .entry)) (now (out .entry)) at) ⌝ }
 {
-    if !is_busy(session) {
+    if words.len() < STATE_WORDS {
+        return Progress { session, at };
+    }
+    if !is_busy(session, words) {
         return Progress { session, at };
     }
     if !has_room(out.len(), at) {
         return Progress { session, at };
     }
-    let state = session.state;
-    let config = state.config;
-    if receiver::slot::is_short(config, packet.len(), collecting.len()) {
+    if receiver::slot::is_short(words, packet.len(), collecting.len()) {
         let at = put_refused(out, at, 22);
         let session = end(session);
         return Progress { session, at };
     }
-    drain(session, packet, collecting, out, at)
+    drain(session, words, packet, collecting, out, at)
 }

@@ -1,7 +1,6 @@
 // What a capture's commands have come to.
 ghost use mathlib.Core.Path.{_≡_};
-ghost use Rattle.capture.specs.Session.{inPhase};
-use receiver::state::State;
+ghost use Rattle.capture.specs.Session.{ended};
 
 pub enum Phase {
     // C has not come.
@@ -20,9 +19,9 @@ pub struct Tally {
     pub notes: u64,
 }
 
+// What is kept beside the state memory, which has the receiver's state.
 pub struct Session {
     pub phase: Phase,
-    pub state: State,
     pub tally: Tally,
 }
 
@@ -34,7 +33,7 @@ pub struct Progress {
 
 // The session ends: nothing is read any more.
 pub fn end(session: Session) -> Session
-    ensures { λ r. ⌜ r ≡ inPhase session Phase.Ended ⌝ }
+    ensures { λ r. ⌜ r ≡ ended session ⌝ }
 {
     Session {
         phase: Phase::Ended,

@@ -8,7 +8,7 @@ use lib.ListN.{length, getD, take, drop}
 use lib.Seq.{getD-take}
 use Rattle.delivery.specs.declared.event.Event.{Event}
 use Rattle.delivery.specs.declared.event.Event.the-variants.{Nothing, Note, Unit, Refused}
-use Rattle.receiver.specs.declared.state.State.{State}
+use Rattle.receiver.specs.State.{State}
 use Rattle.receiver.specs.Next.{nextOf}
 use Rattle.receiver.specs.Claims.{IsRefused}
 use Rattle.receiver.proofs.Demand1.{demand-1}
@@ -17,9 +17,8 @@ use Rattle.capture.specs.declared.command.Letter.{Letter}
 use Rattle.capture.specs.declared.command.Letter.the-variants.{Start, Frame, LostFrame, Slot, LostSlot, Unknown}
 use Rattle.capture.specs.declared.session.Phase.{Phase}
 use Rattle.capture.specs.declared.session.Phase.the-variants.{Before, Reading, Ended}
-use Rattle.capture.specs.declared.session.Session.{Session}
+use Rattle.capture.specs.Session.{Session, isReading, isEnded, busy, inPhase, withState}
 use Rattle.capture.specs.Command.{letterOf, sizeOf, whole}
-use Rattle.capture.specs.Session.{isReading, isEnded, busy, inPhase, withState}
 use Rattle.capture.specs.Capture.{fits, callOf, Done, doneOf, eventLine, tallied, closed, reads}
 use Rattle.capture.proofs.Texts.{whole-size}
 use Rattle.linked.specs.Calls.{callComes, nextCall, oneCall}

@@ -9,9 +9,8 @@ use Rattle.delivery.specs.declared.event.Event.{Event}
 use Rattle.delivery.specs.declared.event.Event.the-variants.{Nothing, Note, Unit, Refused}
 use Rattle.receiver.specs.Next.{nextOf}
 use Rattle.capture.specs.declared.session.Phase.the-variants.{Ended}
-use Rattle.capture.specs.declared.session.Session.{Session}
+use Rattle.capture.specs.Session.{Session, isEnded, busy, withState, withTally, inPhase}
 use Rattle.capture.specs.Command.{letterOf, sizeOf, whole}
-use Rattle.capture.specs.Session.{isEnded, busy, withState, withTally, inPhase}
 use Rattle.lines.specs.Line.{isLine}
 use Rattle.capture.specs.Capture.{fits, doneOf, Drained, behind, eventLine, tallied, closed, drainedOf, lastLine, reads, textOf}
 use Rattle.capture.specs.Drains.{drain-step, drain-idle}

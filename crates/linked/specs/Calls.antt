@@ -12,14 +12,13 @@ use Rattle.receiver.specs.Next.{nextOf}
 use Rattle.capture.specs.declared.command.Letter.{Letter}
 use Rattle.capture.specs.declared.session.Phase.{Phase}
 use Rattle.capture.specs.declared.session.Phase.the-variants.{Before, Reading, Ended}
-use Rattle.capture.specs.declared.session.Progress.{Progress}
-use Rattle.capture.specs.declared.session.Session.{Session}
+use Rattle.capture.specs.Session.{Progress, Session, sessionIn, isEnded, busy, withState, withTally, freshSession}
 use Rattle.capture.specs.Command.{letterOf, sizeOf, whole}
-use Rattle.capture.specs.Session.{isEnded, busy, withState, withTally, freshSession}
 use Rattle.capture.specs.Capture.{fits, reads, doneOf, tallied, closed}
 use Rattle.capture.specs.Steps.{actedOf}
 use Rattle.capture.proofs.Texts.{whole-size}
-use Rattle.linked.specs.declared.calls.Step.{Step}
+use Rattle.capture.specs.declared.session.Session.{Session as Values}
+use Rattle.linked.specs.declared.calls.Step.{Step as ValuesStep}
 
 -- whether the bytes b come to another call: next is owed, or a whole command comes first and fits
 unfoldable pub callComes : Session → List ℕ → Bool
@@ -31,6 +30,14 @@ nextCall s p c =
     let r = nextOf (s .state) p c in
     let t = withState s (r .0 .state) in
     (closed (withTally t (tallied (t .tally) (r .0 .event))) (r .0 .event), r .1)
+
+-- the session, and how many bytes of the capture a call read
+pub record Step : Type 0 where
+  pub session : Session
+  pub read : ℕ
+
+abbrev pub stepIn : ValuesStep → List ℕ → Step
+stepIn r t = record { session = sessionIn (r .session) t; read = r .read }
 
 -- what a call leaves: the session and the bytes that it reads, and both memories
 abbrev pub CallLeaves : Type 0
@@ -62,6 +69,15 @@ callsBy (suc n) s p c b =
 -- of a whole capture b
 unfoldable pub callsOf : List ℕ → List ℕ → List ℕ → ℕ → Made
 callsOf b p c n = callsBy n freshSession p c b
+
+-- what the functions answer and leave, the receiver's state being in words
+pub record NextMade (before : List ℕ) (r : Values) (after d : List ℕ) (x : Session × List ℕ) : Type 0 where
+  pub answer : (sessionIn r after, d) ≡ x
+  pub size : length after ≡ length before
+
+pub record CallMade (before : List ℕ) (r : ValuesStep) (after q d : List ℕ) (x : CallLeaves) : Type 0 where
+  pub answer : (stepIn r after, q, d) ≡ x
+  pub size : length after ≡ length before
 
 -- Laws.
 

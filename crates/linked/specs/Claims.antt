@@ -10,9 +10,8 @@ use Rattle.delivery.specs.declared.event.Event.the-variants.{Nothing, Note, Uni
 use Rattle.receiver.specs.Next.{nextOf}
 use Rattle.lines.specs.Line.{refusedLine}
 use Rattle.capture.specs.declared.session.Phase.the-variants.{Reading, Ended}
-use Rattle.capture.specs.declared.session.Session.{Session}
+use Rattle.capture.specs.Session.{Session, busy, inPhase}
 use Rattle.capture.specs.Command.{letterOf, sizeOf}
-use Rattle.capture.specs.Session.{busy, inPhase}
 use Rattle.capture.specs.Capture.{callOf, doneOf, eventLine, lastLine, textOf, captureOf}
 use Rattle.reassembly.specs.declared.unit.Unit.{Unit}
 use Rattle.packer.specs.declared.pack.Packed.the-variants.{Written}

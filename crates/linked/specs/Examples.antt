@@ -5,14 +5,15 @@ use mathlib.Core.List.{List, [], _∷_, _++_}
 use lib.ListN.{replicate}
 use Rattle.wire.specs.Field.{be}
 use Rattle.wire.specs.Memory.{partOf}
-use Rattle.tmcc.specs.Count.{tab, allBelow}
+use Rattle.wire.specs.Tab.{tab}
+use Rattle.tmcc.specs.Count.{allBelow}
 use Rattle.tmcc.specs.Layout.{blankLayout}
 use Rattle.mmtp.specs.Watch.{firstFrom, lookupOf}
 use Rattle.reassembly.specs.Channel.{unheard}
 use Rattle.intake.specs.Slot.{lostOf}
 use Rattle.delivery.specs.Queue.{eventTaken}
 use Rattle.delivery.specs.Cursor.{turnOf, advancedOf, slotAdvanced, left}
-use Rattle.receiver.specs.Start.{before, twiceBelow, twice, freshState, startRefusal, startOf}
+use Rattle.receiver.specs.Start.{before, twiceBelow, twice, freshState, startRefusal, startFrom}
 use Rattle.receiver.specs.Frame.{frameBusy, lossOf, lostFrameOf}
 use Rattle.receiver.specs.Slot.{shortBy, slotRefusal, slotOf}
 use Rattle.receiver.specs.Next.{packetOf, readOn, readAll, nextOf}
@@ -52,7 +53,7 @@ Counts =
 
 counts : Counts
 unfolding be partOf tab allBelow blankLayout firstFrom lookupOf unheard lostOf eventTaken turnOf advancedOf slotAdvanced left before
-    twiceBelow twice freshState startRefusal startOf frameBusy lossOf lostFrameOf shortBy slotRefusal slotOf packetOf readOn readAll
+    twiceBelow twice freshState startRefusal startFrom frameBusy lossOf lostFrameOf shortBy slotRefusal slotOf packetOf readOn readAll
     nextOf letterOf slotSize sizeOf whole idsOf configOf freshSession callOf afterCall doneOf tallied closed callComes nextCall
     oneCall callsBy callsOf
 counts = (refl, refl, refl, refl, refl, refl, refl, refl, refl, refl, refl)

@@ -18,7 +18,18 @@ pub extern "C" fn ixohuemil_text(
         ≡ textCall (now (capture .entry)) (now (packet .entry)) (now (collecting .entry)) (now (text .entry)) ⌝ }
 {
     let mut command = [0u8; 65538];
-    let fed = feed(begin(), 0, &mut command, capture, packet, collecting, text);
+    let mut words = [0u64; 751];
+    let fresh = begin(&mut words);
+    let fed = feed(
+        fresh,
+        0,
+        &mut command,
+        capture,
+        &mut words,
+        packet,
+        collecting,
+        text,
+    );
     let session = fed.session;
     finish(session.tally, text, fed.written) as u64
 }

@@ -6,10 +6,13 @@ use mathlib.Core.Bool.{Bool, true, false, cond, _&&_, _||_, not}
 use mathlib.Core.List.{List}
 use lib.Dec.{eqb, ltb}
 use Rattle.wire.specs.Memory.{partOf}
+use Rattle.capture.specs.declared.feed.Fed.{Fed}
+use Rattle.capture.specs.declared.session.Progress.{Progress}
 use Rattle.capture.specs.declared.session.Session.{Session}
-use Rattle.capture.specs.Session.{isEnded}
-use Rattle.capture.specs.Feed.{FeedLeaves, fedOf}
-use Rattle.capture.specs.Steps.{Poured, pouredOf}
+use Rattle.capture.specs.Session.{isEnded, sessionIn}
+use Rattle.capture.specs.Words.{Feeds, PoursOr}
+use Rattle.capture.specs.Feed.{fedOf}
+use Rattle.capture.specs.Steps.{pouredOf}
 use Rattle.tlv_capture.specs.declared.pump.Pumped.{Pumped}
 
 abbrev pub freshPump : Session → Pumped
@@ -43,50 +46,44 @@ Refilled p room r =
 abbrev pub anyOf : ℕ → ℕ → Bool
 anyOf a b = cond (eqb a 0) (not (eqb b 0)) true
 
-abbrev pub fedBy : Pumped → ℕ → FeedLeaves → Pumped × List ℕ × List ℕ × List ℕ × List ℕ
-fedBy p left f =
-    let r = f .0 in (
-      record {
-        session = r .session;
-        held = r .held;
-        size = p .size;
-        read = p .size - (left - r .read);
-        last = p .last;
-        moved = anyOf (r .read) (r .written);
-        writes = p .writes;
-        written = r .written;
-      },
-      f .1,
-      f .2,
-      f .3,
-      f .4,
-    )
-
 -- what is left of the block is fed to the capture
-unfoldable pub fedOn : Pumped → List ℕ → List ℕ → List ℕ → List ℕ → List ℕ → Pumped × List ℕ × List ℕ × List ℕ × List ℕ
-fedOn p block command packet c out =
-    let left = p .size - p .read in
-    fedBy p left (fedOf (p .session) (p .held) command (partOf block (p .read) left) packet c out)
+abbrev pub fedBy : Pumped → Fed → Pumped
+fedBy p r =
+    record {
+      session = r .session;
+      held = r .held;
+      size = p .size;
+      read = p .size - (p .size - p .read - r .read);
+      last = p .last;
+      moved = anyOf (r .read) (r .written);
+      writes = p .writes;
+      written = r .written;
+    }
 
-abbrev pub pouredBy : Pumped → Poured → Pumped × List ℕ × List ℕ
-pouredBy p r = (
-  record {
-    session = r .0 .session;
-    held = p .held;
-    size = p .size;
-    read = p .read;
-    last = p .last;
-    moved = cond (p .moved) true (not (eqb (r .0 .at) 0));
-    writes = p .writes;
-    written = r .0 .at;
-  },
-  r .1,
-  r .2,
-)
+pub record FedOn (p : Pumped) (block before command packet c out : List ℕ) (q : Pumped) (after k m d o : List ℕ) : Type 0 where
+  pub fed : Fed
+  pub feeds : Feeds (p .session) (p .held) before command packet c out fed after k m d o
+      (fedOf (sessionIn (p .session) before) (p .held) command (partOf block (p .read) (p .size - p .read)) packet c out)
+  pub pumped : q ≡ fedBy p fed
 
 -- the lines of what waits, from the start of `out`
-unfoldable pub pouredOn : Pumped → List ℕ → List ℕ → List ℕ → Pumped × List ℕ × List ℕ
-pouredOn p packet c out = pouredBy p (pouredOf (p .session) packet c out 0)
+abbrev pub pouredBy : Pumped → Progress → Pumped
+pouredBy p r =
+    record {
+      session = r .session;
+      held = p .held;
+      size = p .size;
+      read = p .read;
+      last = p .last;
+      moved = cond (p .moved) true (not (eqb (r .at) 0));
+      writes = p .writes;
+      written = r .at;
+    }
+
+pub record PouredOn (p : Pumped) (before packet c out : List ℕ) (q : Pumped) (after d o : List ℕ) : Type 0 where
+  pub poured : Progress
+  pub pours : PoursOr (p .session) 0 before c out poured after d o (pouredOf (sessionIn (p .session) before) packet c out 0)
+  pub pumped : q ≡ pouredBy p poured
 
 -- whether standard output took what was written
 abbrev pub toldOf : Pumped → Bool → Pumped

@@ -13,7 +13,8 @@ fn main() {
     let mut command = [0u8; 65538];
     let mut block = io::large_buffer();
     let mut out = io::large_buffer();
-    let mut p = pump::fresh(begin());
+    let mut words = [0u64; 751];
+    let mut p = pump::fresh(begin(&mut words));
     let mut turns = u64::MAX;
     while turns > 0 && pump::goes_on(p) {
         p = pump::refill(p, &mut block);
@@ -21,12 +22,13 @@ fn main() {
             p,
             &block,
             &mut command,
+            &mut words,
             &mut packet,
             &mut collecting,
             &mut out,
         );
         p = pump::tell(p, io::write_all(STDOUT_FILENO, part(&out, 0, p.written)));
-        p = pump::pour_on(p, &packet, &mut collecting, &mut out);
+        p = pump::pour_on(p, &mut words, &packet, &mut collecting, &mut out);
         p = pump::tell(p, io::write_all(STDOUT_FILENO, part(&out, 0, p.written)));
         turns -= 1;
     }

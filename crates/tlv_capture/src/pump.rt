@@ -1,7 +1,7 @@
 // From blocks of standard input to the capture library, and from there to text for standard output.
 ghost use mathlib.Core.Path.{_≡_};
 ghost use lib.ListN.{length};
-ghost use Rattle.tlv_capture.specs.Pump.{freshPump, wantsOf, filledOf, Refilled, anyOf, fedOn, pouredOn, toldOf, goesOn};
+ghost use Rattle.tlv_capture.specs.Pump.{freshPump, wantsOf, filledOf, Refilled, anyOf, FedOn, PouredOn, toldOf, goesOn};
 use capture::feed::feed;
 use capture::feed::is_ended;
 use capture::pour::pour;
@@ -91,18 +91,28 @@ pub fn feed_on(
     p: Pumped,
     block: &[u8],
     command: &mut [u8],
+    words: &mut [u64],
     packet: &mut [u8],
     collecting: &mut [u8],
     out: &mut [u8],
 ) -> Pumped
-    ensures { λ r. ⌜ (r, now (command .exit), now (packet .exit), now (collecting .exit), now (out .exit))
-        ≡ fedOn p (now (block .entry)) (now (command .entry)) (now (packet .entry)) (now (collecting .entry))
-        (now (out .entry)) ⌝ }
+    ensures { λ r. ⌜ FedOn p (now (block .entry)) (now (words .entry)) (now (command .entry)) (now (packet .entry))
+        (now (collecting .entry)) (now (out .entry)) r (now (words .exit)) (now (command .exit)) (now (packet .exit))
+        (now (collecting .exit)) (now (out .exit)) ⌝ }
 {
     let left = distance(p.read, p.size);
     let rest = part(block, p.read, left);
     let before = p.session;
-    let fed = feed(before, p.held, command, rest, packet, collecting, out);
+    let fed = feed(
+        before,
+        p.held,
+        command,
+        rest,
+        words,
+        packet,
+        collecting,
+        out,
+    );
     let session = fed.session;
     let unread = distance(fed.read, left);
     Pumped {
@@ -116,12 +126,18 @@ pub fn feed_on(
 }
 
 // The lines of what waits.
-pub fn pour_on(p: Pumped, packet: &[u8], collecting: &mut [u8], out: &mut [u8]) -> Pumped
-    ensures { λ r. ⌜ (r, now (collecting .exit), now (out .exit))
-        ≡ pouredOn p (now (packet .entry)) (now (collecting .entry)) (now (out .entry)) ⌝ }
+pub fn pour_on(
+    p: Pumped,
+    words: &mut [u64],
+    packet: &[u8],
+    collecting: &mut [u8],
+    out: &mut [u8],
+) -> Pumped
+    ensures { λ r. ⌜ PouredOn p (now (words .entry)) (now (packet .entry)) (now (collecting .entry)) (now (out .entry))
+        r (now (words .exit)) (now (collecting .exit)) (now (out .exit)) ⌝ }
 {
     let before = p.session;
-    let poured = pour(before, packet, collecting, out, 0);
+    let poured = pour(before, words, packet, collecting, out, 0);
     let session = poured.session;
     let moved = if p.moved { true } else { poured.at != 0 };
     Pumped {

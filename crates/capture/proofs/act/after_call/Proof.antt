@@ -7,44 +7,17 @@ use Rattle.capture.proofs.act.after_call.Tie as tie
 enum-told : tie.Need-enum-told
 enum-told c = search needs
 
-enum-told-2 : tie.Need-enum-told-2
-enum-told-2 c = search needs
-
-next-frame-requires : tie.Need-next-frame-requires
-next-frame-requires c κs = search needs
-
-enum-told-3 : tie.Need-enum-told-3
-enum-told-3 c = search needs
-
-next-frame-requires-2 : tie.Need-next-frame-requires-2
-next-frame-requires-2 c κs = search needs
-
-enum-told-4 : tie.Need-enum-told-4
-enum-told-4 c = search needs
-
-next-slot-requires : tie.Need-next-slot-requires
-next-slot-requires c κs = search needs
-
-enum-told-5 : tie.Need-enum-told-5
-enum-told-5 c = search needs
-
-next-slot-requires-2 : tie.Need-next-slot-requires-2
-next-slot-requires-2 c κs = search needs
-
-enum-told-6 : tie.Need-enum-told-6
-enum-told-6 c = search needs
-
 returns : tie.Need-returns
 unfolding afterCall
-returns c = rw (c .before .before .enum-told .given .1)
+returns c = rw (c .before .enum-told .given .1)
 
 returns-2 : tie.Need-returns-2
 unfolding afterCall
-returns-2 c = rw (c .before .enum-told2 .given .1) (c .next-frame .ensures)
+returns-2 c = rw (c .before .enum-told2 .given .1) (c .next-frame .ensures _)
 
 returns-3 : tie.Need-returns-3
 unfolding afterCall
-returns-3 c = rw (c .before .enum-told3 .given .1) (c .next-frame2 .ensures)
+returns-3 c = rw (c .before .enum-told3 .given .1) (c .next-frame2 .ensures _)
 
 returns-4 : tie.Need-returns-4
 unfolding afterCall
@@ -63,15 +36,15 @@ after-call-spec =
     tie.close
     (tie.spec
     enum-told
-    enum-told-2
-    next-frame-requires
-    enum-told-3
-    next-frame-requires-2
-    enum-told-4
-    next-slot-requires
-    enum-told-5
-    next-slot-requires-2
-    enum-told-6
+    (λ c. search needs)
+    (λ c κs. search needs)
+    (λ c. search needs)
+    (λ c κs. search needs)
+    (λ c. search needs)
+    (λ c κs. search needs)
+    (λ c. search needs)
+    (λ c κs. search needs)
+    (λ c. search needs)
     returns
     returns-2
     returns-3

@@ -9,7 +9,7 @@ wrapping-add-u64-requires c κs = search needs
 
 returns : tie.Need-returns
 unfolding afterCall
-returns c = rw (c .before .wrapping-add-u64 .ensures)
+returns c = λ t. rw (c .wrapping-add-u64 .ensures)
 
 pub next-frame-spec : {M : Type 1} → statement M
 next-frame-spec = tie.close (tie.spec wrapping-add-u64-requires returns)

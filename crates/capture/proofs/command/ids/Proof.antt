@@ -4,7 +4,7 @@ use mathlib.Core.Path.{_≡_, refl}
 use native.Mathlib.Omega.{arith}
 use lib.ListN.{length, take, length-set}
 use Rattle.wire.specs.Field.{be}
-use Rattle.tmcc.specs.Count.{tab, tab-turn, tab-filled}
+use Rattle.wire.specs.Tab.{tab, tab-turn, tab-filled}
 use Rattle.capture.specs.Command.{idsOf}
 use Rattle.capture.proofs.command.ids.Statement.{statement}
 use Rattle.capture.proofs.command.ids.Tie as tie
@@ -18,27 +18,6 @@ abbrev μ-loop : tie.MeasureT-loop
 loop-holds : tie.Need-loop-holds Inv-loop μ-loop
 unfolding tab
 loop-holds c = (omega arith, refl, refl)
-
-mul-read16 : tie.Need-mul-read16 Inv-loop μ-loop
-mul-read16 c = omega arith
-
-add-read16 : tie.Need-add-read16 Inv-loop μ-loop
-add-read16 c = omega arith
-
-read16-requires : tie.Need-read16-requires Inv-loop μ-loop
-read16-requires c κs = omega arith
-
-mul-ids : tie.Need-mul-ids Inv-loop μ-loop
-mul-ids c = omega arith
-
-array-write-ids : tie.Need-array-write-ids Inv-loop μ-loop
-array-write-ids c = omega arith
-
-add-i : tie.Need-add-i Inv-loop μ-loop
-add-i c = omega arith
-
-loop-less : tie.Need-loop-less Inv-loop μ-loop
-loop-less c = omega arith
 
 loop-again : tie.Need-loop-again Inv-loop μ-loop
 loop-again c =
@@ -61,12 +40,12 @@ ids-spec =
     Inv-loop
     μ-loop
     loop-holds
-    mul-read16
-    add-read16
-    read16-requires
-    mul-ids
-    array-write-ids
-    add-i
-    loop-less
+    (λ c. omega arith)
+    (λ c. omega arith)
+    (λ c κs. omega arith)
+    (λ c. omega arith)
+    (λ c. omega arith)
+    (λ c. omega arith)
+    (λ c. omega arith)
     loop-again
     returns)

@@ -9,32 +9,8 @@ use Rattle.capture.proofs.command.size.Tie as tie
 returns : tie.Need-returns
 returns c = (sym (size-none _ (c .if1 .taken)), omega arith)
 
-shared-slice-read-letter-of : tie.Need-shared-slice-read-letter-of
-shared-slice-read-letter-of c = search needs
-
-letter-of-requires : tie.Need-letter-of-requires
-letter-of-requires c κs = search needs
-
 enum-told : tie.Need-enum-told
 enum-told c = search needs
-
-enum-told-2 : tie.Need-enum-told-2
-enum-told-2 c = search needs
-
-enum-told-3 : tie.Need-enum-told-3
-enum-told-3 c = search needs
-
-enum-told-4 : tie.Need-enum-told-4
-enum-told-4 c = search needs
-
-slot-size-requires : tie.Need-slot-size-requires
-slot-size-requires c κs = search needs
-
-enum-told-5 : tie.Need-enum-told-5
-enum-told-5 c = search needs
-
-enum-told-6 : tie.Need-enum-told-6
-enum-told-6 c = search needs
 
 returns-2 : tie.Need-returns-2
 returns-2 c = (sym (size-by _ _ (sym (c .before .before .letter-of .ensures) ∙ c .enum-told .given .1)), omega arith)
@@ -61,15 +37,15 @@ size-spec =
     tie.close
     (tie.spec
     returns
-    shared-slice-read-letter-of
-    letter-of-requires
+    (λ c. search needs)
+    (λ c κs. search needs)
     enum-told
-    enum-told-2
-    enum-told-3
-    enum-told-4
-    slot-size-requires
-    enum-told-5
-    enum-told-6
+    (λ c. search needs)
+    (λ c. search needs)
+    (λ c. search needs)
+    (λ c κs. search needs)
+    (λ c. search needs)
+    (λ c. search needs)
     returns-2
     returns-3
     returns-4

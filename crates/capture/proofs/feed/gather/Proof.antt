@@ -7,41 +7,8 @@ use borrow.Author.Needs.{needs}
 use Rattle.capture.proofs.feed.gather.Statement.{statement}
 use Rattle.capture.proofs.feed.gather.Tie as tie
 
-slice-reshare-prefix-wanted : tie.Need-slice-reshare-prefix-wanted
-slice-reshare-prefix-wanted c = search needs
-
 slice-aggregate-wanted : tie.Need-slice-aggregate-wanted
 slice-aggregate-wanted c = sym (length-take-le _ _ (omega (arith, c .before .before .before .pre .0 .most)))
-
-wanted-requires : tie.Need-wanted-requires
-wanted-requires c κs = search needs
-
-sub-smaller : tie.Need-sub-smaller
-sub-smaller c = search needs
-
-smaller-requires : tie.Need-smaller-requires
-smaller-requires c κs = search needs
-
-add-end : tie.Need-add-end
-add-end c = search needs
-
-sub-copy-at : tie.Need-sub-copy-at
-sub-copy-at c = search needs
-
-part-copy-at-start : tie.Need-part-copy-at-start
-part-copy-at-start c = search needs
-
-part-copy-at-end : tie.Need-part-copy-at-end
-part-copy-at-end c = search needs
-
-copy-at-requires : tie.Need-copy-at-requires
-copy-at-requires c κs = search needs
-
-add-t11 : tie.Need-add-t11
-add-t11 c = search needs
-
-same-length : tie.Need-same-length
-same-length c = search needs
 
 returns : tie.Need-returns
 returns c =
@@ -54,16 +21,16 @@ pub gather-spec : {M : Type 1} → statement M
 gather-spec =
     tie.close
     (tie.spec
-    slice-reshare-prefix-wanted
+    (λ c. search needs)
     slice-aggregate-wanted
-    wanted-requires
-    sub-smaller
-    smaller-requires
-    add-end
-    sub-copy-at
-    part-copy-at-start
-    part-copy-at-end
-    copy-at-requires
-    add-t11
-    same-length
+    (λ c κs. search needs)
+    (λ c. search needs)
+    (λ c κs. search needs)
+    (λ c. search needs)
+    (λ c. search needs)
+    (λ c. search needs)
+    (λ c. search needs)
+    (λ c κs. search needs)
+    (λ c. search needs)
+    (λ c. search needs)
     returns)

@@ -10,16 +10,10 @@ returns : tie.Need-returns
 unfolding goesBy
 returns c = rw (le-ltb _ _ (c .if1 .taken))
 
-has-room-requires : tie.Need-has-room-requires
-has-room-requires c κs = search needs
-
 returns-2 : tie.Need-returns-2
 unfolding goesBy
 returns-2 c =
     rw (lt-ltb _ _ (c .before .before .if1 .left), sym (c .before .has-room .ensures) ∙ not-true _ (c .if2 .taken))
-
-is-busy-requires : tie.Need-is-busy-requires
-is-busy-requires c κs = search needs
 
 returns-3 : tie.Need-returns-3
 unfolding goesBy
@@ -30,9 +24,6 @@ returns-3 c =
       sym (r .before .has-room .ensures) ∙ not-false _ (r .if2 .left),
       sym (c .before .is-busy .ensures) ∙ c .if3 .taken,
     )
-
-is-ended-requires : tie.Need-is-ended-requires
-is-ended-requires c κs = search needs
 
 returns-4 : tie.Need-returns-4
 unfolding goesBy
@@ -51,9 +42,9 @@ goes-on-spec =
     tie.close
     (tie.spec
     returns
-    has-room-requires
+    (λ c κs. search needs)
     returns-2
-    is-busy-requires
+    (λ c κs. search needs)
     returns-3
-    is-ended-requires
+    (λ c κs. search needs)
     returns-4)

@@ -6,15 +6,6 @@ use Rattle.capture.specs.Feed.{source-block, source-gathered}
 use Rattle.capture.proofs.feed.source.Statement.{statement}
 use Rattle.capture.proofs.feed.source.Tie as tie
 
-sub-result : tie.Need-sub-result
-sub-result c = search needs
-
-part-result-start : tie.Need-part-result-start
-part-result-start c = search needs
-
-part-result-end : tie.Need-part-result-end
-part-result-end c = search needs
-
 returns : tie.Need-returns
 returns c = rw (c .before .if1 .taken) (sym (source-block _ _ _ _))
 
@@ -28,9 +19,9 @@ pub source-spec : {M : Type 1} → statement M
 source-spec =
     tie.close
     (tie.spec
-    sub-result
-    part-result-start
-    part-result-end
+    (λ c. search needs)
+    (λ c. search needs)
+    (λ c. search needs)
     returns
     slice-aggregate-result
     returns-2)

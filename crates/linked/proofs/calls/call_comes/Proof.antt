@@ -5,14 +5,8 @@ use borrow.Author.Needs.{needs}
 use Rattle.linked.proofs.calls.call_comes.Statement.{statement}
 use Rattle.linked.proofs.calls.call_comes.Tie as tie
 
-is-busy-requires : tie.Need-is-busy-requires
-is-busy-requires c κs = search needs
-
 returns : tie.Need-returns
 returns c = sym (comes-next _ _ (sym (c .before .is-busy .ensures) ∙ c .if1 .taken))
-
-size-requires : tie.Need-size-requires
-size-requires c κs = search needs
 
 returns-2 : tie.Need-returns-2
 returns-2 c =
@@ -25,15 +19,6 @@ returns-3 c =
     let z = c .before .before in
     let o = z .before in
     sym (comes-cut _ _ (sym (o .before .is-busy .ensures) ∙ o .if1 .left) (rw (z .size .ensures .0) at (c .if3 .taken)))
-
-shared-slice-read-letter-of : tie.Need-shared-slice-read-letter-of
-shared-slice-read-letter-of c = search needs
-
-letter-of-requires : tie.Need-letter-of-requires
-letter-of-requires c κs = search needs
-
-is-fit-requires : tie.Need-is-fit-requires
-is-fit-requires c κs = search needs
 
 returns-4 : tie.Need-returns-4
 returns-4 c =
@@ -50,12 +35,12 @@ pub call-comes-spec : {M : Type 1} → statement M
 call-comes-spec =
     tie.close
     (tie.spec
-    is-busy-requires
+    (λ c κs. search needs)
     returns
-    size-requires
+    (λ c κs. search needs)
     returns-2
     returns-3
-    shared-slice-read-letter-of
-    letter-of-requires
-    is-fit-requires
+    (λ c. search needs)
+    (λ c κs. search needs)
+    (λ c κs. search needs)
     returns-4)

@@ -5,26 +5,11 @@ use Rattle.linked.specs.Answers.{cut-taken, cut-left}
 use Rattle.linked.proofs.cut.ixohuemil_cut.Statement.{statement}
 use Rattle.linked.proofs.cut.ixohuemil_cut.Tie as tie
 
-cut-slot-requires : tie.Need-cut-slot-requires
-cut-slot-requires c κs = search needs
-
-enum-known-slot : tie.Need-enum-known-slot
-enum-known-slot c = search needs
-
-enum-known-slot-2 : tie.Need-enum-known-slot-2
-enum-known-slot-2 c = search needs
-
-same-length : tie.Need-same-length
-same-length c = search needs
-
 returns : tie.Need-returns
 returns c =
     let d = c .before .before .before .before .before in
     let e = rw (c .before .slot .given .1) at (d .cut-slot .ensures) in
     sym (cut-left _ _ _ _ _ _ _ _ e)
-
-same-length-2 : tie.Need-same-length-2
-same-length-2 c = search needs
 
 returns-2 : tie.Need-returns-2
 returns-2 c =
@@ -36,10 +21,10 @@ pub ixohuemil-cut-spec : {M : Type 1} → statement M
 ixohuemil-cut-spec =
     tie.close
     (tie.spec
-    cut-slot-requires
-    enum-known-slot
-    enum-known-slot-2
-    same-length
+    (λ c κs. search needs)
+    (λ c. search needs)
+    (λ c. search needs)
+    (λ c. search needs)
     returns
-    same-length-2
+    (λ c. search needs)
     returns-2)
