@@ -9,7 +9,8 @@ use lib.ListN.{length, getD, length-replicate}
 use Rattle.wire.specs.Field.{be}
 use Rattle.tmcc.specs.declared.layout.Layout.{Layout}
 use Rattle.tmcc.specs.declared.block.Decoded.{Decoded}
-use Rattle.tmcc.specs.Count.{tab, allBelow, countBelow, lastBelow}
+use Rattle.wire.specs.Tab.{tab}
+use Rattle.tmcc.specs.Count.{allBelow, countBelow, lastBelow}
 use Rattle.tmcc.specs.Mode.{
   dataBytes,
   within,
@@ -66,13 +67,13 @@ use Rattle.reassembly.specs.Channel.{nextPsn, heard, gap, unheard}
 use Rattle.reassembly.specs.Join.{interrupted, begun, counterFollows, grown, extended, followed, acted, joinOf, notesOf}
 use Rattle.reassembly.specs.Run.{Content, Input, step, fresh, count}
 use Rattle.reassembly.specs.Sent.{openUnit, sentAfter, sent}
-use Rattle.receiver.specs.Start.{startRefusal, startOf, twiceBelow, twice, before}
+use Rattle.receiver.specs.Start.{startRefusal, startOf, twiceBelow, twice, before, startFrom}
 use Rattle.receiver.specs.Slot.{wrongLength}
 use Rattle.broadcast.specs.Account.{readOf, events, account}
 use Rattle.broadcast.specs.Carried.{inputs, rowInputs, carriedUnits, intactUnits, contents, Few}
 use Rattle.intake.specs.Slot.{packetMemory, heldBytes}
 use Rattle.delivery.specs.declared.event.Event.the-variants.{Nothing}
-use Rattle.receiver.specs.declared.state.State.{State}
+use Rattle.receiver.specs.State.{State}
 use Rattle.receiver.specs.Next.{nextOf}
 use Rattle.broadcast.specs.Drains.{Shown, note, unit, strip, Drains, stops, notes, units, HeldIs}
 use Rattle.broadcast.specs.Calls.{Machine, frame, slot as slot-call, next, Did, did, Made}
@@ -108,7 +109,7 @@ use Rattle.broadcast.proofs.Arrivals.{damage-account}
 use Rattle.broadcast.proofs.Demand3.{start-at, shows-account, made, demand-3}
 
 config-accepted : startOf config .refusal ≡ 0
-unfolding config startOf startRefusal twice twiceBelow lookupOf firstFrom before
+unfolding config startFrom startRefusal twice twiceBelow lookupOf firstFrom before
 config-accepted = refl
 
 block-layout : decodeOf block 0x0102 ≡ record { refusal = 0; layout = layout }

@@ -15,11 +15,9 @@ use Rattle.delivery.specs.declared.event.Event.the-variants.{Nothing, Note, Uni
 use Rattle.delivery.specs.declared.cursor.Found.{Found}
 use Rattle.delivery.specs.declared.cursor.Found.the-variants.{Event as AnEvent, Packet, Tail, Done}
 use Rattle.intake.specs.declared.held.Cursor.{Cursor}
-use Rattle.receiver.specs.declared.state.Frame.{Frame}
-use Rattle.delivery.specs.declared.queue.Queue.{Queue}
-use Rattle.receiver.specs.declared.state.State.{State}
+use Rattle.receiver.specs.State.{Frame, State, withSlot, withQueue}
+use Rattle.delivery.specs.Waiting.{Queue}
 use Rattle.intake.specs.Slot.{packetMemory, holding}
-use Rattle.receiver.specs.State.{withSlot, withQueue}
 use Rattle.delivery.specs.Queue.{eventTaken}
 use Rattle.receiver.specs.Slot.{shortBy}
 use Rattle.receiver.specs.Next.{NextOut, onwards, readOn, readAll, nextOf, past, packetOf}

@@ -22,14 +22,12 @@ use Rattle.delivery.specs.declared.event.Event.{Event}
 use Rattle.delivery.specs.declared.event.Event.the-variants.{Nothing, Note, Unit, Refused}
 use Rattle.delivery.specs.declared.cursor.Found.{Found}
 use Rattle.delivery.specs.declared.cursor.Found.the-variants.{Event as AnEvent, Packet, Tail, Done}
-use Rattle.delivery.specs.declared.queue.Queue.{Queue}
+use Rattle.delivery.specs.Waiting.{Queue}
 use Rattle.delivery.specs.Choice.{by-test}
 use Rattle.delivery.specs.Cursor.{advancedOf, turnBy, turnOf, left}
 use Rattle.delivery.specs.Queue.{eventTaken}
-use Rattle.receiver.specs.declared.state.State.{State}
-use Rattle.receiver.specs.declared.answer.Called.{Called}
-use Rattle.receiver.specs.State.{withSlot, withQueue}
-use Rattle.receiver.specs.Start.{startRefusal, freshState, startOf}
+use Rattle.receiver.specs.State.{State, Called, withSlot, withQueue}
+use Rattle.receiver.specs.Start.{startRefusal, freshState, startOf, startFrom}
 use Rattle.receiver.specs.Frame.{frameBusy, frameOf, lossOf, lostFrameOf, free}
 use Rattle.receiver.specs.Slot.{SlotOut, slotRefusal, counted, dueLength, duePointers, dueOwn, wrongLength, slotTaken, slotOf, lossTaken, lostSlotOf, ready, right-length, shortBy}
 use Rattle.receiver.specs.Next.{NextOut, packetOf, past, onwards, readOn, readAll, nextOf}
@@ -261,7 +259,7 @@ fresh-holds cfg p =
     }
 
 start-holds : (cfg : Config) (p : List ℕ) → Holds (startOf cfg .state) p
-unfolding startOf
+unfolding startFrom
 start-holds cfg p =
     either (λ (r : Called). Holds (r .state) p) (eqb (startRefusal cfg) 0) (fresh-holds cfg p) (fresh-holds _ p)
 

@@ -29,10 +29,9 @@ use Rattle.reassembly.specs.Join.{notesOf}
 use Rattle.reassembly.specs.Run.{Input, Event, note as account-note, Lane, laneAfter, eventsOf, step, withLane}
 use Rattle.delivery.specs.declared.packet.Located.{Located}
 use Rattle.delivery.specs.declared.packet.Arrived.the-variants.{Good}
-use Rattle.delivery.specs.declared.queue.Queue.{Queue}
-use Rattle.receiver.specs.declared.state.State.{State}
+use Rattle.delivery.specs.Waiting.{Queue}
+use Rattle.receiver.specs.State.{State, withQueue, withChannels}
 use Rattle.delivery.specs.Queue.{empty}
-use Rattle.receiver.specs.State.{withQueue, withChannels}
 use Rattle.delivery.specs.Packet.{bytesAt, unitIn, baseOf, stepOf, queueOf, joinedOf, arrivedAt, readBy, flowBy}
 use Rattle.receiver.specs.Next.{arrivedBy, packetOf}
 use Rattle.broadcast.specs.Account.{

@@ -15,10 +15,8 @@ use Rattle.tlv.specs.Run.{Arrival, State as Slot-state, lost, step, run, stateA
 use Rattle.reassembly.specs.declared.config.Config.{Config}
 use Rattle.reassembly.specs.Run.{Lane, fresh}
 use Rattle.intake.specs.Slot.{packetMemory}
-use Rattle.receiver.specs.declared.state.Frame.{Frame as ReceiverFrame}
+use Rattle.receiver.specs.State.{Frame as ReceiverFrame, State, accepted as acceptedAs, refused as refusedWith}
 use Rattle.delivery.specs.declared.event.Event.the-variants.{Nothing, Refused}
-use Rattle.receiver.specs.declared.state.State.{State}
-use Rattle.receiver.specs.State.{accepted as acceptedAs, refused as refusedWith}
 use Rattle.receiver.specs.Next.{answered, readOn, readAll, nextOf}
 use Rattle.delivery.specs.Cursor.{left}
 use Rattle.receiver.specs.Slot.{wrongLength, slotOf, lostSlotOf, lossTaken, dueOwn, shortBy, slotRefusal}

@@ -41,7 +41,7 @@ use Rattle.tlv.proofs.Answers.{says, top-inside}
 use Rattle.tlv.proofs.Runs.{step-given}
 use Rattle.intake.specs.declared.held.Cursor.{Cursor}
 use Rattle.intake.specs.declared.held.Held.{Held}
-use Rattle.receiver.specs.declared.state.State.{State}
+use Rattle.receiver.specs.State.{State, withSlot, withIntake}
 use Rattle.intake.specs.Slot.{
   packetMemory,
   searching,
@@ -60,7 +60,6 @@ use Rattle.intake.specs.Slot.{
   intakeOf,
   lostOf,
 }
-use Rattle.receiver.specs.State.{withSlot, withIntake}
 use Rattle.receiver.specs.Frame.{lossOf}
 use Rattle.receiver.specs.Slot.{counted, ownOf}
 use Rattle.broadcast.specs.Drains.{HeldIs}

@@ -11,10 +11,8 @@ use Rattle.reassembly.specs.Channel.{unheard}
 use Rattle.reassembly.specs.Run.{Lane}
 use Rattle.delivery.specs.declared.event.Event.{Event}
 use Rattle.delivery.specs.declared.event.Event.the-variants.{Nothing, Note, Unit, Refused}
-use Rattle.delivery.specs.declared.queue.Give.{Give}
-use Rattle.delivery.specs.declared.queue.Give.the-variants.{Nothing as NoUnit, One, Many}
-use Rattle.delivery.specs.declared.queue.Queue.{Queue}
-use Rattle.receiver.specs.declared.state.State.{State}
+use Rattle.delivery.specs.Waiting.{Give, Nothing as NoUnit, One, Many, Queue}
+use Rattle.receiver.specs.State.{State}
 use Rattle.delivery.specs.Queue.{empty, eventTaken}
 use Rattle.receiver.specs.Next.{packetOf}
 use Rattle.broadcast.specs.Account.{After, readOf, afterRead}

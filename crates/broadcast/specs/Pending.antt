@@ -13,12 +13,9 @@ use Rattle.mmtp.specs.Unit.{Piece, aggregate}
 use Rattle.reassembly.specs.declared.note.JoinNote.the-variants.{AboveLimit}
 use Rattle.reassembly.specs.Notes as joining
 use Rattle.reassembly.specs.Unit.{carried}
-use Rattle.delivery.specs.declared.queue.Aggregate.{Aggregate}
+use Rattle.delivery.specs.Waiting.{Aggregate, Give, Nothing, One, Many, Queue}
 use Rattle.intake.specs.declared.held.Cursor.{Cursor}
-use Rattle.delivery.specs.declared.queue.Give.{Give}
-use Rattle.delivery.specs.declared.queue.Give.the-variants.{Nothing, One, Many}
 use Rattle.intake.specs.declared.held.Held.{Held}
-use Rattle.delivery.specs.declared.queue.Queue.{Queue}
 use Rattle.intake.specs.Slot.{searching, holding}
 use Rattle.broadcast.specs.Drains.{Shown, note, unit, shown}
 

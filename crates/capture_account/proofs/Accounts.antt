@@ -13,19 +13,16 @@ use Rattle.tmcc.specs.Layout.{blankLayout}
 use Rattle.tlv.specs.Run.{State as Slot-state, searching, run}
 use Rattle.reassembly.specs.declared.config.Config.{Config}
 use Rattle.reassembly.specs.Run.{Lane, fresh}
-use Rattle.receiver.specs.declared.answer.Called.{Called}
-use Rattle.receiver.specs.declared.state.Frame.{Frame as ReceiverFrame}
-use Rattle.receiver.specs.declared.state.State.{State}
+use Rattle.receiver.specs.State.{Called, Frame as ReceiverFrame, State}
 use Rattle.receiver.specs.Start.{startOf, freshState}
 use Rattle.lines.specs.Line.{refusedLine}
 use Rattle.capture.specs.declared.command.Letter.{Letter}
 use Rattle.capture.specs.declared.command.Letter.the-variants.{Start, Frame, LostFrame, Slot, LostSlot, Unknown}
 use Rattle.capture.specs.declared.session.Phase.{Phase}
 use Rattle.capture.specs.declared.session.Phase.the-variants.{Before, Reading, Ended}
-use Rattle.capture.specs.declared.session.Session.{Session}
+use Rattle.capture.specs.Session.{Session, isEnded, busy, inPhase, withState, freshSession}
 use Rattle.capture.specs.declared.session.Tally.{Tally}
 use Rattle.capture.specs.Command.{letterOf, sizeOf, whole, size-by}
-use Rattle.capture.specs.Session.{isEnded, busy, inPhase, withState, freshSession}
 use Rattle.capture.specs.Capture.{fits, callOf, afterCall, doneOf, drainedOf, reads}
 use Rattle.capture.specs.Drains.{still, drain-idle}
 use Rattle.capture.proofs.Texts.{whole-size, size-whole}

@@ -6,17 +6,14 @@ use mathlib.Core.List.{List, [], _∷_}
 use native.Mathlib.Omega.{arith}
 use lib.ListN.{length}
 use Rattle.delivery.specs.declared.event.Event.the-variants.{Nothing, Note, Unit, Refused}
-use Rattle.receiver.specs.declared.answer.Answer.{Answer}
-use Rattle.receiver.specs.declared.state.State.{State}
-use Rattle.receiver.specs.State.{withOwed}
+use Rattle.receiver.specs.State.{Answer, State, withOwed}
 use Rattle.receiver.specs.Slot.{shortBy}
 use Rattle.receiver.specs.Show.{showOf}
 use Rattle.receiver.specs.Next.{NextOut, nextOf, next-short, next-idle}
 use Rattle.lines.specs.Line.{isLine}
 use Rattle.capture.specs.declared.session.Phase.the-variants.{Reading}
-use Rattle.capture.specs.declared.session.Session.{Session}
+use Rattle.capture.specs.Session.{Session, withTally}
 use Rattle.capture.specs.declared.session.Tally.{Tally}
-use Rattle.capture.specs.Session.{withTally}
 use Rattle.capture.specs.Waits.{waits, next-falls, next-owes}
 use Rattle.capture.specs.Capture.{Drained, eventBy, tallied, closed, drainedBy, drainedOf}
 use Rattle.capture.specs.Drains.{drain-idle}

@@ -5,14 +5,14 @@ use mathlib.Core.List.{List, [], _∷_, _++_, map}
 use native.Mathlib.Omega.{arith}
 use lib.ListN.{length}
 use Rattle.wire.specs.Field.{be}
-use Rattle.tmcc.specs.Count.{tab}
+use Rattle.wire.specs.Tab.{tab}
 use Rattle.tmcc.specs.declared.layout.Layout.{Layout}
 use Rattle.tmcc.specs.Layout.{blankLayout}
 use Rattle.tmcc.proofs.Laws.{accepted as tmcc-accepted}
 use Rattle.tlv.specs.Run.{Arrival, searching}
 use Rattle.reassembly.specs.declared.config.Config.{Config}
 use Rattle.reassembly.specs.Run.{Content, fresh}
-use Rattle.receiver.specs.Start.{before, twiceBelow, twice, freshState, startRefusal, startOf}
+use Rattle.receiver.specs.Start.{before, twiceBelow, twice, freshState, startRefusal, startFrom}
 use Rattle.mmtp.specs.Watch.{lookupOf, firstFrom}
 use Rattle.capture.specs.Command.{letterOf, sizeOf, whole, idsOf, configOf}
 use Rattle.broadcast.specs.Account.{account}
@@ -80,12 +80,12 @@ unfolding configOf idsOf be tab config
 start-config = refl
 
 start-begins : Begins startBytes
-unfolding letterOf startOf startRefusal before twiceBelow twice freshState configOf idsOf be tab lookupOf firstFrom
+unfolding letterOf startFrom startRefusal before twiceBelow twice freshState configOf idsOf be tab lookupOf firstFrom
 start-begins = record { has-c = record { first = refl; long = omega arith }; accepted = refl }
 
 -- C and X alone
 loss-begins : Begins lossAlone
-unfolding letterOf startOf startRefusal before twiceBelow twice freshState configOf idsOf be tab lookupOf firstFrom
+unfolding letterOf startFrom startRefusal before twiceBelow twice freshState configOf idsOf be tab lookupOf firstFrom
 loss-begins = record { has-c = record { first = refl; long = omega arith }; accepted = refl }
 
 loss-calls : commandCalls lossAlone ≡ lost-frame ∷ []
@@ -160,7 +160,7 @@ examples =
       short-refused = loss-shows .0;
       short-counted = loss-shows .1;
       has-c = record { first = unfold letterOf in refl; long = omega arith };
-      no-ids = unfold startOf in unfold startRefusal in unfold configOf in unfold idsOf in unfold be in unfold tab in refl;
+      no-ids = unfold startFrom in unfold startRefusal in unfold configOf in unfold idsOf in unfold be in unfold tab in refl;
       undamaged = undamaged;
       slot-lost = gives slotLost _ (b .6) (s .0) (s .1);
       frame-lost = gives frameLost _ (b .7) (f .0) (f .1);

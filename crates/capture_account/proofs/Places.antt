@@ -1,7 +1,8 @@
 -- The notes and units of the capture with frame 1 lost, with their frames and slots: computed from its calls.
 use mathlib.Core.Path.{_≡_, refl}
 use Rattle.wire.specs.Field.{be}
-use Rattle.tmcc.specs.Count.{tab, allBelow, countBelow, lastBelow}
+use Rattle.wire.specs.Tab.{tab}
+use Rattle.tmcc.specs.Count.{allBelow, countBelow, lastBelow}
 use Rattle.tmcc.specs.Mode.{dataBytes, within, used, unused, modeGood, slotsOf, modesGood, modeFrom, modeOf, slotLength}
 use Rattle.tmcc.specs.Stream.{chosen, relativeStream, ownSlot}
 use Rattle.tmcc.specs.Layout.{pointersAt, layoutOf, blankLayout}

@@ -10,9 +10,7 @@ use borrow.Author.Tests.{eqb-true, eqb-false, ne-eqb, ltb-false}
 use Rattle.tmcc.specs.Block.{decodeOf}
 use Rattle.reassembly.specs.declared.config.Config.{Config}
 use Rattle.delivery.specs.Choice.{neither}
-use Rattle.receiver.specs.declared.answer.Called.{Called}
-use Rattle.receiver.specs.declared.state.State.{State}
-use Rattle.receiver.specs.State.{withFrame, refused as refusedWith, accepted as acceptedAs}
+use Rattle.receiver.specs.State.{Called, State, withFrame, refused as refusedWith, accepted as acceptedAs}
 use Rattle.receiver.specs.Start.{freshState}
 use Rattle.receiver.specs.Frame.{frameBusy, frameOf, lossOf, lostFrameOf, frame-short, frame-busy, frame-refused, frame-accepted}
 use Rattle.receiver.specs.Frame.{lost-frame-busy, lost-frame-accepted}
@@ -21,10 +19,9 @@ use Rattle.receiver.specs.Next.{next-short}
 use Rattle.capture.specs.declared.command.Letter.{Letter}
 use Rattle.capture.specs.declared.command.Letter.the-variants.{Start, Frame, LostFrame, Slot, LostSlot, Unknown}
 use Rattle.capture.specs.declared.session.Phase.the-variants.{Reading, Ended}
-use Rattle.capture.specs.declared.session.Session.{Session}
+use Rattle.capture.specs.Session.{Session, freshSession}
 use Rattle.capture.specs.declared.session.Tally.{Tally}
 use Rattle.capture.specs.Command.{letterOf, sizeOf, whole}
-use Rattle.capture.specs.Session.{freshSession}
 use Rattle.capture.specs.Capture.{fits, callOf, closed, tallied, drainedBy, drainedOf}
 use Rattle.capture.specs.Drains.{drain-idle}
 use Rattle.capture.proofs.Texts.{whole-size}

@@ -13,14 +13,11 @@ use Rattle.tmcc.specs.Block.{decodeOf}
 use Rattle.tlv.specs.Run.{Arrival, State as Slot-state, Stepped, lost, step, run, stateAfter}
 use Rattle.reassembly.specs.declared.config.Config.{Config}
 use Rattle.reassembly.specs.Run.{Lane}
-use Rattle.receiver.specs.declared.answer.Called.{Called}
-use Rattle.receiver.specs.declared.state.State.{State}
-use Rattle.receiver.specs.declared.state.Frame.{Frame as ReceiverFrame}
+use Rattle.receiver.specs.State.{Called, State, Frame as ReceiverFrame, withFrame, refused as refusedWith, accepted as acceptedAs}
 use Rattle.receiver.specs.Slot.{counted, wrongLength, slotRefusal, slotOf, lostSlotOf, slotTaken, lossTaken}
 use Rattle.receiver.specs.Slot.{dueLength, dueOwn, duePointers, shortBy, long-enough}
 use Rattle.receiver.specs.Frame.{frameBusy, frameOf, lossOf, lostFrameOf}
 use Rattle.receiver.specs.Next.{next-idle}
-use Rattle.receiver.specs.State.{withFrame, refused as refusedWith, accepted as acceptedAs}
 use Rattle.capture.specs.declared.command.Letter.{Letter}
 use Rattle.capture.specs.declared.command.Letter.the-variants.{Start, Frame, LostFrame, Slot, LostSlot, Unknown}
 use Rattle.capture.specs.declared.session.Phase.the-variants.{Reading}

@@ -8,15 +8,14 @@ use lib.Dec.{eqb}
 use borrow.Author.Tests.{not-true}
 use Rattle.delivery.specs.declared.event.Event.{Event}
 use Rattle.delivery.specs.declared.event.Event.the-variants.{Nothing, Note, Unit, Refused}
-use Rattle.receiver.specs.declared.answer.Called.{Called}
+use Rattle.receiver.specs.State.{Called}
 use Rattle.receiver.specs.Next.{nextOf}
 use Rattle.lines.specs.Line.{unitLine, refusedLine}
 use Rattle.capture.specs.declared.command.Letter.{Letter}
 use Rattle.capture.specs.declared.session.Phase.{Phase}
 use Rattle.capture.specs.declared.session.Phase.the-variants.{Before, Reading, Ended}
-use Rattle.capture.specs.declared.session.Session.{Session}
+use Rattle.capture.specs.Session.{Session, isEnded, busy, inPhase, withState, withTally, freshSession}
 use Rattle.capture.specs.Command.{letterOf, sizeOf, whole}
-use Rattle.capture.specs.Session.{isEnded, busy, inPhase, withState, withTally, freshSession}
 use Rattle.capture.specs.Capture.{
   Done,
   Drained,

@@ -9,15 +9,13 @@ use lib.Dec.{eqb}
 use Rattle.wire.specs.Choice.{either}
 use Rattle.delivery.specs.declared.event.Event.{Event}
 use Rattle.delivery.specs.declared.event.Event.the-variants.{Nothing, Note, Unit, Refused}
-use Rattle.receiver.specs.declared.answer.Called.{Called}
-use Rattle.receiver.specs.declared.state.State.{State}
+use Rattle.receiver.specs.State.{Called, State}
 use Rattle.receiver.specs.Next.{nextOf}
 use Rattle.capture.specs.declared.command.Letter.{Letter}
 use Rattle.capture.specs.declared.command.Letter.the-variants.{Start, Frame, LostFrame, Slot, LostSlot, Unknown}
-use Rattle.capture.specs.declared.session.Session.{Session}
+use Rattle.capture.specs.Session.{Session, isEnded, busy, withState, withTally, freshSession}
 use Rattle.capture.specs.declared.session.Tally.{Tally}
 use Rattle.capture.specs.Command.{letterOf, sizeOf}
-use Rattle.capture.specs.Session.{isEnded, busy, withState, withTally, freshSession}
 use Rattle.capture.specs.Capture.{Done, Drained, fits, callOf, afterCall, doneOf, tallied, closed, eventBy, drainedBy, drainedOf, reads}
 use Rattle.capture.specs.Drains.{still}
 use Rattle.broadcast.specs.Drains.{Shown, note, unit}

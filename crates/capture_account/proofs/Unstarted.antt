@@ -43,7 +43,7 @@ module _ (f : ℕ) (p c b : List ℕ) where
       let x = take (sizeOf b) b in
       let e : configOf x ≡ configIn b = ap (λ (k : ℕ). configOf (take k b)) (size-by b Start lw) in
       let z : eqb (startOf (configOf x) .refusal) 0 ≡ false = rw e (ne-eqb _ _ n) in
-      let d = done-refused freshSession p c x Start (letter wh Start lw) (rw fresh-before refl) (startOf (configOf x)) p refl z in
+      let d = done-refused freshSession p c x Start (letter wh Start lw) (rw fresh-before refl) (startOf (configOf x)) p (unfold freshSession in refl) z in
       rw (wh, d .0, d .1, fresh-before) (record { events = refl; refusal = rw e refl; frames = unfold freshSession in refl })
 
 -- C is the first command that fits

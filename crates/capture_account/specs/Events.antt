@@ -8,10 +8,9 @@ use Rattle.delivery.specs.declared.event.Event.{Event}
 use Rattle.delivery.specs.declared.event.Event.the-variants.{Nothing, Note, Unit, Refused}
 use Rattle.receiver.specs.Next.{nextOf}
 use Rattle.lines.specs.Line.{unitText, noteLine, refusedLine}
-use Rattle.capture.specs.declared.session.Session.{Session}
+use Rattle.capture.specs.Session.{Session, isEnded, busy, withState, withTally, freshSession}
 use Rattle.capture.specs.declared.session.Tally.{Tally}
 use Rattle.capture.specs.Command.{letterOf, sizeOf}
-use Rattle.capture.specs.Session.{isEnded, busy, withState, withTally, freshSession}
 use Rattle.capture.specs.Waits.{waits}
 use Rattle.capture.specs.Capture.{fits, callOf, doneOf, tallied, drainedOf, reads, lastLine}
 use Rattle.broadcast.specs.Drains.{Shown, note, unit, shown}

@@ -14,7 +14,7 @@ use Rattle.tlv.specs.Packet.{goodFirst, total, complete, marked}
 use Rattle.mmtp.specs.declared.watch.Found.the-variants.{At}
 use Rattle.mmtp.specs.Watch.{lookupOf, firstFrom}
 use Rattle.reassembly.specs.declared.unit.Unit.{Unit}
-use Rattle.receiver.specs.Start.{before, twiceBelow, twice, startRefusal, startOf}
+use Rattle.receiver.specs.Start.{before, twiceBelow, twice, startRefusal, startFrom}
 use Rattle.packer.specs.Pieces.{piecesBy, pieces, indicatorAt, counterAt, withPsn, pieceAt}
 use Rattle.packer.specs.Packet.{
   outerHead,
@@ -149,7 +149,7 @@ unfolding piecesBy pieces withPsn
 follow = (tt, (tt, (refl, (tt, (refl, (refl, tt))))))
 
 pub example : Meets
-unfolding be bytesOf before twiceBelow twice startRefusal startOf lookupOf firstFrom allBelow dataBytes unlisted piecesBy pieces indicatorAt
+unfolding be bytesOf before twiceBelow twice startRefusal startFrom lookupOf firstFrom allBelow dataBytes unlisted piecesBy pieces indicatorAt
     counterAt withPsn pieceAt outerHead payloadType mmtpHead indicatorBits fragmentBits mpuHead signallingHead payloadHead timedFields
     fieldsWritten dataUnit mmtpOf packetOf packetAt packetsFrom packets joined allPackets padded
 example =

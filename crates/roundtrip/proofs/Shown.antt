@@ -14,7 +14,8 @@ use Rattle.wire.specs.Lists.{sift}
 use Rattle.tmcc.specs.declared.layout.Layout.{Layout}
 use Rattle.tmcc.specs.declared.layout.Pointers.{Pointers}
 use Rattle.tmcc.specs.declared.block.Decoded.{Decoded}
-use Rattle.tmcc.specs.Count.{tab, allBelow, countBelow, lastBelow}
+use Rattle.wire.specs.Tab.{tab}
+use Rattle.tmcc.specs.Count.{allBelow, countBelow, lastBelow}
 use Rattle.tmcc.specs.Mode.{dataBytes, within, used, unused, modeGood, slotsOf as modeSlots, modesGood, modeFrom, modeOf, slotLength}
 use Rattle.tmcc.specs.Stream.{chosen, relativeStream, ownSlot}
 use Rattle.tmcc.specs.Layout.{pointersAt, layoutOf}
