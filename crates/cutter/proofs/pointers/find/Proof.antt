@@ -23,9 +23,6 @@ Inv-loop run from l to top₀ last₀ at₀ top last at =
 abbrev μ-loop : tie.MeasureT-loop
 μ-loop run from l to top₀ last₀ at₀ top last at = length run - at
 
-add-to : tie.Need-add-to Inv-loop μ-loop
-add-to c = search needs
-
 loop-holds : tie.Need-loop-holds Inv-loop μ-loop
 unfolding topOf lastOf
 loop-holds c = (search needs, c .before .pre .0, refl, refl)
@@ -49,9 +46,6 @@ total-at-requires c κs = omega (arith, standing c)
 
 add-end : tie.Need-add-end Inv-loop μ-loop
 add-end c = omega (arith, standing (c .before), c .total-at .ensures .0)
-
-top-with-requires : tie.Need-top-with-requires Inv-loop μ-loop
-top-with-requires c κs = search needs
 
 last-with-requires : tie.Need-last-with-requires Inv-loop μ-loop
 last-with-requires c κs = omega (arith, standing (c .before .before), c .before .total-at .ensures .0)
@@ -85,11 +79,11 @@ find-spec =
     (tie.spec
     Inv-loop
     μ-loop
-    add-to
+    (λ c. search needs)
     loop-holds
     total-at-requires
     add-end
-    top-with-requires
+    (λ c κs. search needs)
     last-with-requires
     loop-less
     loop-again

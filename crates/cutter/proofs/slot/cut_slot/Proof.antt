@@ -33,9 +33,6 @@ copied : (run output : List ℕ) (from l : ℕ) → from + l ≤ length run → 
 copied run output from l h e =
     filled output (take (from + l - from) (drop from run)) (e ∙ sym (part-length run from l h)) ∙ rw (same run from l h)
 
-refusal-requires : tie.Need-refusal-requires
-refusal-requires c κs = search needs
-
 returns : tie.Need-returns
 returns c = rw (c .before .refusal .ensures) (sym (slot-refused _ _ _ _ (rw (c .before .refusal .ensures) at (c .if1 .taken))))
 
@@ -73,12 +70,6 @@ find-requires c κs = (whole-good _ (accept c .packets) .1, omega (arith, room c
 add-copy-at : tie.Need-add-copy-at
 add-copy-at c = omega (arith, room (c .before .before))
 
-sub-copy-at : tie.Need-sub-copy-at
-sub-copy-at c = search needs
-
-part-copy-at-start : tie.Need-part-copy-at-start
-part-copy-at-start c = search needs
-
 part-copy-at-end : tie.Need-part-copy-at-end
 part-copy-at-end c = let r = room (c .before .before) in search needs
 
@@ -87,9 +78,6 @@ copy-at-requires c κs =
     let d = c .before .before .before in
     let a = d .before .before .before .before .args in
     omega (arith, room d, part-length (a .run .now) (a .s * a .l) (a .l) (room d .inside))
-
-same-length : tie.Need-same-length
-same-length c = search needs
 
 returns-2 : tie.Need-returns-2
 unfolding slotAt pointersOf
@@ -104,14 +92,14 @@ pub cut-slot-spec : {M : Type 1} → statement M
 cut-slot-spec =
     tie.close
     (tie.spec
-    refusal-requires
+    (λ c κs. search needs)
     returns
     mul-from
     find-requires
     add-copy-at
-    sub-copy-at
-    part-copy-at-start
+    (λ c. search needs)
+    (λ c. search needs)
     part-copy-at-end
     copy-at-requires
-    same-length
+    (λ c. search needs)
     returns-2)

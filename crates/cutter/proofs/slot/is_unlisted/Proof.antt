@@ -21,27 +21,12 @@ loop-holds : tie.Need-loop-holds Inv-loop μ-loop
 unfolding allBelow
 loop-holds c = (search needs, refl)
 
-add-data-bytes : tie.Need-add-data-bytes Inv-loop μ-loop
-add-data-bytes c = search needs
-
-data-bytes-requires : tie.Need-data-bytes-requires Inv-loop μ-loop
-data-bytes-requires c κs = search needs
-
-cast-if1 : tie.Need-cast-if1 Inv-loop μ-loop
-cast-if1 c = search needs
-
 returns : tie.Need-returns Inv-loop μ-loop
 unfolding unlisted
 returns c =
     let r = c .before .before .before .loop .rate in
     let e = sym (c .before .data-bytes .ensures) ∙ c .if1 .taken in
     sym (all-below-false _ r 11 (omega arith) (rw (eq-eqb _ _ e)))
-
-add-rate : tie.Need-add-rate Inv-loop μ-loop
-add-rate c = search needs
-
-loop-less : tie.Need-loop-less Inv-loop μ-loop
-loop-less c = search needs
 
 loop-again : tie.Need-loop-again Inv-loop μ-loop
 loop-again c =
@@ -62,11 +47,11 @@ is-unlisted-spec =
     Inv-loop
     μ-loop
     loop-holds
-    add-data-bytes
-    data-bytes-requires
-    cast-if1
+    (λ c. search needs)
+    (λ c κs. search needs)
+    (λ c. search needs)
     returns
-    add-rate
-    loop-less
+    (λ c. search needs)
+    (λ c. search needs)
     loop-again
     returns-2)

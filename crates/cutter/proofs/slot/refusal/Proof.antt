@@ -12,9 +12,6 @@ use Rattle.cutter.proofs.Table.{listed-bounds}
 use Rattle.cutter.proofs.slot.refusal.Statement.{statement}
 use Rattle.cutter.proofs.slot.refusal.Tie as tie
 
-is-whole-requires : tie.Need-is-whole-requires
-is-whole-requires c κs = search needs
-
 returns : tie.Need-returns
 returns c = sym (refused-run _ _ _ _ (sym (c .before .is-whole .ensures) ∙ not-true _ (c .if1 .taken)))
 
@@ -24,9 +21,6 @@ packets d = sym (d .before .is-whole .ensures) ∙ not-false _ (d .if1 .left)
 
 listed : (d : tie.Else2) → unlisted (d .before .before .before .before .before .args .l) ≡ false
 listed d = sym (d .before .is-unlisted .ensures) ∙ d .if2 .left
-
-is-unlisted-requires : tie.Need-is-unlisted-requires
-is-unlisted-requires c κs = search needs
 
 returns-2 : tie.Need-returns-2
 returns-2 c =
@@ -63,9 +57,9 @@ pub refusal-spec : {M : Type 1} → statement M
 refusal-spec =
     tie.close
     (tie.spec
-    is-whole-requires
+    (λ c κs. search needs)
     returns
-    is-unlisted-requires
+    (λ c κs. search needs)
     returns-2
     div-if3
     returns-3

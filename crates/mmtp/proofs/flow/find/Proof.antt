@@ -15,12 +15,6 @@ returns c =
     let e : getD p 1 0 ≡ 0 = List·getD-eq-default p 0 h in
     sym (other-type p _ (λ q. omega arith))
 
-shared-slice-read-kind : tie.Need-shared-slice-read-kind
-shared-slice-read-kind c = search needs
-
-find-compressed-requires : tie.Need-find-compressed-requires
-find-compressed-requires c κs = search needs
-
 returns-2 : tie.Need-returns-2
 returns-2 c = c .find-compressed .ensures ∙ sym (type-3 _ _ (c .before .match .keys1))
 
@@ -35,8 +29,8 @@ find-spec =
     tie.close
     (tie.spec
     returns
-    shared-slice-read-kind
-    find-compressed-requires
+    (λ c. search needs)
+    (λ c κs. search needs)
     returns-2
     returns-3
     returns-4)

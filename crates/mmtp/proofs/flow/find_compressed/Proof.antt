@@ -16,28 +16,13 @@ own d =
 returns : tie.Need-returns
 returns c = sym (under-3-bytes _ _ (c .if1 .taken))
 
-read16-requires : tie.Need-read16-requires
-read16-requires c κs = search needs
-
 returns-2 : tie.Need-returns-2
 returns-2 c = sym (other-cid _ _ (c .before .before .if1 .left) (λ q. c .if2 .taken (omega (arith, c .before .read16 .ensures))))
-
-shared-slice-read-compressed-header : tie.Need-shared-slice-read-compressed-header
-shared-slice-read-compressed-header c = search needs
-
-compressed-header-requires : tie.Need-compressed-header-requires
-compressed-header-requires c κs = search needs
-
-enum-known-header : tie.Need-enum-known-header
-enum-known-header c = search needs
 
 add-if3 : tie.Need-add-if3
 add-if3 c =
     let b = start-bounds _ _ (sym (c .before .before .before .compressed-header .ensures) ∙ c .before .header .given .1) in
     omega arith
-
-add-t17 : tie.Need-add-t17
-add-t17 c = search needs
 
 enum-told : tie.Need-enum-told
 enum-told c = search needs
@@ -61,13 +46,13 @@ find-compressed-spec =
     tie.close
     (tie.spec
     returns
-    read16-requires
+    (λ c κs. search needs)
     returns-2
-    shared-slice-read-compressed-header
-    compressed-header-requires
-    enum-known-header
+    (λ c. search needs)
+    (λ c κs. search needs)
+    (λ c. search needs)
     add-if3
-    add-t17
+    (λ c. search needs)
     enum-told
     returns-3
     returns-4

@@ -30,12 +30,6 @@ found d = start-at _ _ (sym (d .before .before .start-of .ensures) ∙ d .at .gi
 inside : (d : tie.After-at) → 12 ≤ length (d .before .before .before .before .args .m .now)
 inside d = omega (arith, found d .1, start-low (d .before .before .before .before .args .m .now))
 
-start-of-requires : tie.Need-start-of-requires
-start-of-requires c κs = search needs
-
-enum-known-at : tie.Need-enum-known-at
-enum-known-at c = search needs
-
 enum-told : tie.Need-enum-told
 enum-told c = search needs
 
@@ -71,8 +65,8 @@ pub read-spec : {M : Type 1} → statement M
 read-spec =
     tie.close
     (tie.spec
-    start-of-requires
-    enum-known-at
+    (λ c κs. search needs)
+    (λ c. search needs)
     enum-told
     returns
     shared-slice-read-first

@@ -40,12 +40,6 @@ whole d =
 returns : tie.Need-returns
 returns c = sym (start-cut _ (omega (arith, start-low (c .before .before .args .m .now))))
 
-shared-slice-read-first : tie.Need-shared-slice-read-first
-shared-slice-read-first c = search needs
-
-fixed-bytes-requires : tie.Need-fixed-bytes-requires
-fixed-bytes-requires c κs = search needs
-
 returns-2 : tie.Need-returns-2
 returns-2 c = sym (start-cut _ (omega (arith, short (c .before))))
 
@@ -60,21 +54,6 @@ add-if4 c =
 returns-4 : tie.Need-returns-4
 returns-4 c = sym (start-cut _ (omega (arith, long (c .before))))
 
-add-start : tie.Need-add-start
-add-start c = search needs
-
-add-read16 : tie.Need-add-read16
-add-read16 c = search needs
-
-read16-requires : tie.Need-read16-requires
-read16-requires c κs = search needs
-
-cast-start : tie.Need-cast-start
-cast-start c = search needs
-
-add-start-2 : tie.Need-add-start-2
-add-start-2 c = search needs
-
 returns-5 : tie.Need-returns-5
 returns-5 c = sym (start-cut _ (omega (arith, whole (c .before))))
 
@@ -86,16 +65,16 @@ start-of-spec =
     tie.close
     (tie.spec
     returns
-    shared-slice-read-first
-    fixed-bytes-requires
+    (λ c. search needs)
+    (λ c κs. search needs)
     returns-2
     returns-3
     add-if4
     returns-4
-    add-start
-    add-read16
-    read16-requires
-    cast-start
-    add-start-2
+    (λ c. search needs)
+    (λ c. search needs)
+    (λ c κs. search needs)
+    (λ c. search needs)
+    (λ c. search needs)
     returns-5
     returns-6)

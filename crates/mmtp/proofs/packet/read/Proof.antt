@@ -21,40 +21,16 @@ placed d =
     let l = f .before .before in
     rw (d .read2 .ensures) (watched _ _ _ (head (l .before .before)) _ (sym (l .lookup .ensures) ∙ f .found .given .1))
 
-read-requires : tie.Need-read-requires
-read-requires c κs = search needs
-
-enum-known-heading : tie.Need-enum-known-heading
-enum-known-heading c = search needs
-
 enum-told : tie.Need-enum-told
 enum-told c = search needs
 
 returns : tie.Need-returns
 returns c = sym (bad-header _ _ (sym (c .before .before .read .ensures) ∙ c .enum-told .given .1))
 
-lookup-requires : tie.Need-lookup-requires
-lookup-requires c κs = search needs
-
-enum-known-found : tie.Need-enum-known-found
-enum-known-found c = search needs
-
-enum-told-2 : tie.Need-enum-told-2
-enum-told-2 c = search needs
-
 returns-2 : tie.Need-returns-2
 returns-2 c =
     let l = c .before .before in
     sym (unwatched _ _ _ (head (l .before .before)) (sym (l .lookup .ensures) ∙ c .enum-told2 .given .1))
-
-read-requires-2 : tie.Need-read-requires-2
-read-requires-2 c κs = search needs
-
-enum-known-body : tie.Need-enum-known-body
-enum-known-body c = search needs
-
-enum-told-3 : tie.Need-enum-told-3
-enum-told-3 c = search needs
 
 returns-3 : tie.Need-returns-3
 unfolding bodyRead
@@ -70,16 +46,16 @@ pub read-spec : {M : Type 1} → statement M
 read-spec =
     tie.close
     (tie.spec
-    read-requires
-    enum-known-heading
+    (λ c κs. search needs)
+    (λ c. search needs)
     enum-told
     returns
-    lookup-requires
-    enum-known-found
-    enum-told-2
+    (λ c κs. search needs)
+    (λ c. search needs)
+    (λ c. search needs)
     returns-2
-    read-requires-2
-    enum-known-body
-    enum-told-3
+    (λ c κs. search needs)
+    (λ c. search needs)
+    (λ c. search needs)
     returns-3
     returns-4)

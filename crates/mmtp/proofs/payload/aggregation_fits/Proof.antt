@@ -12,15 +12,6 @@ returns c = rw (not-true (c .before .args .aggregated) (c .if1 .taken))
 enum-told : tie.Need-enum-told
 enum-told c = search needs
 
-enum-told-2 : tie.Need-enum-told-2
-enum-told-2 c = search needs
-
-enum-told-3 : tie.Need-enum-told-3
-enum-told-3 c = search needs
-
-enum-told-4 : tie.Need-enum-told-4
-enum-told-4 c = search needs
-
 returns-2 : tie.Need-returns-2
 unfolding aggregationFits
 returns-2 c = rw (not-false (c .before .before .before .args .aggregated) (c .before .before .if1 .left), c .enum-told .given .1)
@@ -43,9 +34,9 @@ aggregation-fits-spec =
     (tie.spec
     returns
     enum-told
-    enum-told-2
-    enum-told-3
-    enum-told-4
+    (λ c. search needs)
+    (λ c. search needs)
+    (λ c. search needs)
     returns-2
     returns-3
     returns-4

@@ -9,12 +9,6 @@ use Rattle.mmtp.specs.Payload.{payload-unparsed, payload-counter, payloa
 use Rattle.mmtp.proofs.payload.read.Statement.{statement}
 use Rattle.mmtp.proofs.payload.read.Tie as tie
 
-parse-requires : tie.Need-parse-requires
-parse-requires c κs = search needs
-
-enum-known-parsed : tie.Need-enum-known-parsed
-enum-known-parsed c = search needs
-
 enum-told : tie.Need-enum-told
 enum-told c = search needs
 
@@ -35,25 +29,16 @@ aggregated c = sym (c .before .aggregation-fits .ensures) ∙ not-false _ (c .if
 returns : tie.Need-returns
 returns c = sym (payload-unparsed _ _ _ (sym (c .before .before .parse .ensures) ∙ c .enum-told .given .1))
 
-counter-fits-requires : tie.Need-counter-fits-requires
-counter-fits-requires c κs = search needs
-
 returns-2 : tie.Need-returns-2
 returns-2 c =
     let t = sym (c .before .counter-fits .ensures) ∙ not-true _ (c .if1 .taken) in
     sym (payload-counter _ _ _ _ (parses (c .before .before)) t)
-
-aggregation-fits-requires : tie.Need-aggregation-fits-requires
-aggregation-fits-requires c κs = search needs
 
 returns-3 : tie.Need-returns-3
 returns-3 c =
     let d = c .before .before in
     let t = sym (c .before .aggregation-fits .ensures) ∙ not-true _ (c .if2 .taken) in
     sym (payload-aggregation _ _ _ _ (parses (d .before .before)) (counted d) t)
-
-units-fit-requires : tie.Need-units-fit-requires
-units-fit-requires c κs = search needs
 
 returns-4 : tie.Need-returns-4
 returns-4 c =
@@ -71,14 +56,14 @@ pub read-spec : {M : Type 1} → statement M
 read-spec =
     tie.close
     (tie.spec
-    parse-requires
-    enum-known-parsed
+    (λ c κs. search needs)
+    (λ c. search needs)
     enum-told
     returns
-    counter-fits-requires
+    (λ c κs. search needs)
     returns-2
-    aggregation-fits-requires
+    (λ c κs. search needs)
     returns-3
-    units-fit-requires
+    (λ c κs. search needs)
     returns-4
     returns-5)

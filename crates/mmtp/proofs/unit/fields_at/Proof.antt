@@ -19,26 +19,14 @@ timed c = rw (c .match .keys1) at (c .before .before .pre)
 read32-requires : tie.Need-read32-requires
 read32-requires c κs = omega (arith, timed c)
 
-add-read32 : tie.Need-add-read32
-add-read32 c = search needs
-
 read32-requires-2 : tie.Need-read32-requires-2
 read32-requires-2 c κs = omega (arith, timed (c .before))
-
-add-read32-2 : tie.Need-add-read32-2
-add-read32-2 c = search needs
 
 read32-requires-3 : tie.Need-read32-requires-3
 read32-requires-3 c κs = omega (arith, timed (c .before .before))
 
-add-t11 : tie.Need-add-t11
-add-t11 c = search needs
-
 shared-slice-read-t13 : tie.Need-shared-slice-read-t13
 shared-slice-read-t13 c = omega (arith, timed (c .before .before .before .before))
-
-add-t14 : tie.Need-add-t14
-add-t14 c = search needs
 
 shared-slice-read-t16 : tie.Need-shared-slice-read-t16
 shared-slice-read-t16 c = omega (arith, timed (c .before .before .before .before .before))
@@ -76,13 +64,13 @@ fields-at-spec =
     tie.close
     (tie.spec
     read32-requires
-    add-read32
+    (λ c. search needs)
     read32-requires-2
-    add-read32-2
+    (λ c. search needs)
     read32-requires-3
-    add-t11
+    (λ c. search needs)
     shared-slice-read-t13
-    add-t14
+    (λ c. search needs)
     shared-slice-read-t16
     read32-requires-4
     returns

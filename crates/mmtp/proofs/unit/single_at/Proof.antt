@@ -10,9 +10,6 @@ use Rattle.mmtp.specs.Unit.{fieldBytes, singleFits, singleAt, singleUnit
 use Rattle.mmtp.proofs.unit.single_at.Statement.{statement}
 use Rattle.mmtp.proofs.unit.single_at.Tie as tie
 
-single-fits-requires : tie.Need-single-fits-requires
-single-fits-requires c κs = search needs
-
 -- what the test tells
 fits : (c : tie.Else1) → let a = c .before .before .before .args in singleFits (a .m .now) (a .at) (a .kind) ≡ true
 fits c = sym (c .before .single-fits .ensures) ∙ not-false _ (c .if1 .left)
@@ -27,9 +24,6 @@ returns c = rw (sym (c .before .single-fits .ensures) ∙ not-true _ (c .if1 .ta
 fields-at-requires : tie.Need-fields-at-requires
 fields-at-requires c κs = room c
 
-field-bytes-requires : tie.Need-field-bytes-requires
-field-bytes-requires c κs = search needs
-
 add-start : tie.Need-add-start
 add-start c = omega (arith, room (c .before .before))
 
@@ -41,9 +35,9 @@ pub single-at-spec : {M : Type 1} → statement M
 single-at-spec =
     tie.close
     (tie.spec
-    single-fits-requires
+    (λ c κs. search needs)
     returns
     fields-at-requires
-    field-bytes-requires
+    (λ c κs. search needs)
     add-start
     returns-2)

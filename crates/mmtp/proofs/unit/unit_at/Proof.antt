@@ -30,26 +30,17 @@ returns : tie.Need-returns
 unfolding unitAt
 returns c = rw (le-leb _ _ (c .if1 .taken))
 
-place-behind-requires : tie.Need-place-behind-requires
-place-behind-requires c κs = search needs
-
 returns-2 : tie.Need-returns-2
 unfolding unitAt
 returns-2 c =
     let u = behind-stays _ _ _ _ (rw (c .before .place-behind .ensures) at (c .if2 .taken)) in
     rw (lt-leb _ _ (c .before .before .if1 .left), u)
 
-length-bytes-requires : tie.Need-length-bytes-requires
-length-bytes-requires c κs = search needs
-
 add-from : tie.Need-add-from
 add-from c = omega (arith, room (c .before))
 
 fields-at-requires : tie.Need-fields-at-requires
 fields-at-requires c κs = rw (c .length-bytes .ensures) (room (c .before))
-
-field-bytes-requires : tie.Need-field-bytes-requires
-field-bytes-requires c κs = search needs
 
 add-start : tie.Need-add-start
 add-start c = omega (arith, room (c .before .before .before))
@@ -73,11 +64,11 @@ unit-at-spec =
     tie.close
     (tie.spec
     returns
-    place-behind-requires
+    (λ c κs. search needs)
     returns-2
-    length-bytes-requires
+    (λ c κs. search needs)
     add-from
     fields-at-requires
-    field-bytes-requires
+    (λ c κs. search needs)
     add-start
     returns-3)

@@ -21,9 +21,6 @@ returns-3 c =
     let d = c .before in
     sym (kind-large _ _ _ _ _ _ (d .before .if1 .left) (d .if2 .left) (c .if3 .taken))
 
-count-requires : tie.Need-count-requires
-count-requires c κs = search needs
-
 -- the unit's own count of pieces
 abbrev all : tie.Else3 → ℕ
 all d = let a = d .before .before .before .before .before .args in countOf (a .m) (length (a .bytes .now))
@@ -44,9 +41,6 @@ returns-4 c =
 
 counted : (c : tie.Else4) → c .before .count .result ≡ all (c .before .before)
 counted c = counts (c .before) .0 (c .if4 .left)
-
-head-bytes-requires : tie.Need-head-bytes-requires
-head-bytes-requires c κs = search needs
 
 -- what is written is small
 few : (c : tie.After-head-bytes)
@@ -106,9 +100,6 @@ write-run-requires c κs =
       fits = rw (k .head-bytes .ensures .0) at (g .if5 .left);
     }
 
-same-length : tie.Need-same-length
-same-length c = search needs
-
 returns-7 : tie.Need-returns-7
 returns-7 c =
     let w = c .before .before in
@@ -131,13 +122,13 @@ pack-spec =
     returns
     returns-2
     returns-3
-    count-requires
+    (λ c κs. search needs)
     returns-4
-    head-bytes-requires
+    (λ c κs. search needs)
     mul-len
     add-len
     returns-5
     returns-6
     write-run-requires
-    same-length
+    (λ c. search needs)
     returns-7)

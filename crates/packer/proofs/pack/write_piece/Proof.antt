@@ -28,12 +28,6 @@ mul-cut c = omega (arith, begins-in c)
 cut-requires : tie.Need-cut-requires
 cut-requires c κs = begins-in c
 
-number-requires : tie.Need-number-requires
-number-requires c κs = search needs
-
-sn-at-requires : tie.Need-sn-at-requires
-sn-at-requires c κs = search needs
-
 write-packet-requires : tie.Need-write-packet-requires
 unfolding pieceAt withPsn
 write-packet-requires c κs =
@@ -54,12 +48,6 @@ write-packet-requires c κs =
       small = rw e (omega (arith, t, w .small));
     }
 
-head-bytes-requires : tie.Need-head-bytes-requires
-head-bytes-requires c κs = search needs
-
-add-result : tie.Need-add-result
-add-result c = search needs
-
 add-result-2 : tie.Need-add-result-2
 add-result-2 c =
     let g = c .before .before .before .before .before .before .before .before .before .before .before in
@@ -68,9 +56,6 @@ add-result-2 c =
     let e = ap length (c .before .before .before .before .before .before .before .cut .ensures) in
     let l = length-packet-at (p .unit) (p .cid) (p .sn) (p .n) (a .i) (take (p .m) (drop (a .i * p .m) (a .bytes .now))) in
     omega (arith, e, l, c .head-bytes .ensures .0, g .pre .1 .1)
-
-same-length : tie.Need-same-length
-same-length c = search needs
 
 returns : tie.Need-returns
 unfolding packetAt pieceAt withPsn
@@ -92,11 +77,11 @@ write-piece-spec =
     (tie.spec
     mul-cut
     cut-requires
-    number-requires
-    sn-at-requires
+    (λ c κs. search needs)
+    (λ c κs. search needs)
     write-packet-requires
-    head-bytes-requires
-    add-result
+    (λ c κs. search needs)
+    (λ c. search needs)
     add-result-2
-    same-length
+    (λ c. search needs)
     returns)

@@ -37,12 +37,6 @@ write-piece-requires c κs =
     let n = left-length (a .plan) (a .bytes .now) (length (a .output .now)) (g .pre) (l .i) h in
     (rw (l .inv .1) (g .pre), (h, omega (arith, n, l .inv .1, l .inv .2)))
 
-add-i : tie.Need-add-i Inv-loop μ-loop
-add-i c = search needs
-
-loop-less : tie.Need-loop-less Inv-loop μ-loop
-loop-less c = search needs
-
 loop-again : tie.Need-loop-again Inv-loop μ-loop
 loop-again c =
     let d = c .before .before in
@@ -64,9 +58,6 @@ loop-again c =
           ∙ r .3,
     )
 
-same-length : tie.Need-same-length Inv-loop μ-loop
-same-length c = search needs
-
 returns : tie.Need-returns Inv-loop μ-loop
 returns c =
     let g = c .before .before .before .before in
@@ -86,8 +77,8 @@ write-run-spec =
     μ-loop
     loop-holds
     write-piece-requires
-    add-i
-    loop-less
+    (λ c. search needs)
+    (λ c. search needs)
     loop-again
-    same-length
+    (λ c. search needs)
     returns)

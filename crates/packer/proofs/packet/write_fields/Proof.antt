@@ -22,15 +22,9 @@ write32-requires c κs =
     let l = fields-3 (s .args .kind) (c .before .match .keys2) in
     omega (arith, s .pre)
 
-same-length : tie.Need-same-length
-same-length c = search needs
-
 returns : tie.Need-returns
 unfolding fieldsWritten fieldBytes
 returns c = rw (c .before .before .before .before .match .keys1) (c .before .before .write-timed .ensures)
-
-same-length-2 : tie.Need-same-length-2
-same-length-2 c = search needs
 
 returns-2 : tie.Need-returns-2
 unfolding fieldsWritten fieldBytes
@@ -54,9 +48,9 @@ write-fields-spec =
     (tie.spec
     write-timed-requires
     write32-requires
-    same-length
+    (λ c. search needs)
     returns
-    same-length-2
+    (λ c. search needs)
     returns-2
     returns-3
     returns-4)

@@ -10,39 +10,6 @@ use borrow.Author.Needs.{needs}
 use Rattle.packer.proofs.packet.write_mmtp.Statement.{statement}
 use Rattle.packer.proofs.packet.write_mmtp.Tie as tie
 
-write8-requires : tie.Need-write8-requires
-write8-requires c κs = search needs
-
-add-write8 : tie.Need-add-write8
-add-write8 c = search needs
-
-payload-type-requires : tie.Need-payload-type-requires
-payload-type-requires c κs = search needs
-
-write8-requires-2 : tie.Need-write8-requires-2
-write8-requires-2 c κs = search needs
-
-add-write16 : tie.Need-add-write16
-add-write16 c = search needs
-
-write16-requires : tie.Need-write16-requires
-write16-requires c κs = search needs
-
-add-write32 : tie.Need-add-write32
-add-write32 c = search needs
-
-write32-requires : tie.Need-write32-requires
-write32-requires c κs = search needs
-
-add-write32-2 : tie.Need-add-write32-2
-add-write32-2 c = search needs
-
-write32-requires-2 : tie.Need-write32-requires-2
-write32-requires-2 c κs = search needs
-
-same-length : tie.Need-same-length
-same-length c = search needs
-
 returns : tie.Need-returns
 unfolding mmtpHead bytesOf
 returns c =
@@ -64,15 +31,15 @@ pub write-mmtp-spec : {M : Type 1} → statement M
 write-mmtp-spec =
     tie.close
     (tie.spec
-    write8-requires
-    add-write8
-    payload-type-requires
-    write8-requires-2
-    add-write16
-    write16-requires
-    add-write32
-    write32-requires
-    add-write32-2
-    write32-requires-2
-    same-length
+    (λ c κs. search needs)
+    (λ c. search needs)
+    (λ c κs. search needs)
+    (λ c κs. search needs)
+    (λ c. search needs)
+    (λ c κs. search needs)
+    (λ c. search needs)
+    (λ c κs. search needs)
+    (λ c. search needs)
+    (λ c κs. search needs)
+    (λ c. search needs)
     returns)

@@ -10,42 +10,6 @@ use borrow.Author.Needs.{needs}
 use Rattle.packer.proofs.packet.write_mpu.Statement.{statement}
 use Rattle.packer.proofs.packet.write_mpu.Tie as tie
 
-write16-requires : tie.Need-write16-requires
-write16-requires c κs = search needs
-
-add-write8 : tie.Need-add-write8
-add-write8 c = search needs
-
-fragment-bits-requires : tie.Need-fragment-bits-requires
-fragment-bits-requires c κs = search needs
-
-indicator-bits-requires : tie.Need-indicator-bits-requires
-indicator-bits-requires c κs = search needs
-
-mul-write8 : tie.Need-mul-write8
-mul-write8 c = search needs
-
-add-write8-2 : tie.Need-add-write8-2
-add-write8-2 c = search needs
-
-write8-requires : tie.Need-write8-requires
-write8-requires c κs = search needs
-
-add-write8-3 : tie.Need-add-write8-3
-add-write8-3 c = search needs
-
-write8-requires-2 : tie.Need-write8-requires-2
-write8-requires-2 c κs = search needs
-
-add-write32 : tie.Need-add-write32
-add-write32 c = search needs
-
-write32-requires : tie.Need-write32-requires
-write32-requires c κs = search needs
-
-same-length : tie.Need-same-length
-same-length c = search needs
-
 returns : tie.Need-returns
 unfolding mpuHead bytesOf
 returns c =
@@ -65,16 +29,16 @@ pub write-mpu-spec : {M : Type 1} → statement M
 write-mpu-spec =
     tie.close
     (tie.spec
-    write16-requires
-    add-write8
-    fragment-bits-requires
-    indicator-bits-requires
-    mul-write8
-    add-write8-2
-    write8-requires
-    add-write8-3
-    write8-requires-2
-    add-write32
-    write32-requires
-    same-length
+    (λ c κs. search needs)
+    (λ c. search needs)
+    (λ c κs. search needs)
+    (λ c κs. search needs)
+    (λ c. search needs)
+    (λ c. search needs)
+    (λ c κs. search needs)
+    (λ c. search needs)
+    (λ c κs. search needs)
+    (λ c. search needs)
+    (λ c κs. search needs)
+    (λ c. search needs)
     returns)

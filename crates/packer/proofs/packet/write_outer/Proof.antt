@@ -10,42 +10,6 @@ use borrow.Author.Needs.{needs}
 use Rattle.packer.proofs.packet.write_outer.Statement.{statement}
 use Rattle.packer.proofs.packet.write_outer.Tie as tie
 
-write8-requires : tie.Need-write8-requires
-write8-requires c κs = search needs
-
-add-write8 : tie.Need-add-write8
-add-write8 c = search needs
-
-write8-requires-2 : tie.Need-write8-requires-2
-write8-requires-2 c κs = search needs
-
-add-write16 : tie.Need-add-write16
-add-write16 c = search needs
-
-write16-requires : tie.Need-write16-requires
-write16-requires c κs = search needs
-
-add-write16-2 : tie.Need-add-write16-2
-add-write16-2 c = search needs
-
-mul-write16 : tie.Need-mul-write16
-mul-write16 c = search needs
-
-add-write16-3 : tie.Need-add-write16-3
-add-write16-3 c = search needs
-
-write16-requires-2 : tie.Need-write16-requires-2
-write16-requires-2 c κs = search needs
-
-add-write8-2 : tie.Need-add-write8-2
-add-write8-2 c = search needs
-
-write8-requires-3 : tie.Need-write8-requires-3
-write8-requires-3 c κs = search needs
-
-same-length : tie.Need-same-length
-same-length c = search needs
-
 returns : tie.Need-returns
 unfolding outerHead bytesOf
 returns c =
@@ -67,16 +31,16 @@ pub write-outer-spec : {M : Type 1} → statement M
 write-outer-spec =
     tie.close
     (tie.spec
-    write8-requires
-    add-write8
-    write8-requires-2
-    add-write16
-    write16-requires
-    add-write16-2
-    mul-write16
-    add-write16-3
-    write16-requires-2
-    add-write8-2
-    write8-requires-3
-    same-length
+    (λ c κs. search needs)
+    (λ c. search needs)
+    (λ c κs. search needs)
+    (λ c. search needs)
+    (λ c κs. search needs)
+    (λ c. search needs)
+    (λ c. search needs)
+    (λ c. search needs)
+    (λ c κs. search needs)
+    (λ c. search needs)
+    (λ c κs. search needs)
+    (λ c. search needs)
     returns)

@@ -27,17 +27,8 @@ sized d =
     let z = sizes (g .args .p .unit .kind) in
     (d .field-bytes .ensures, d .before .payload-head-bytes .ensures .0, z .0, z .1, z .2, g .pre .fits, g .pre .small)
 
-payload-head-bytes-requires : tie.Need-payload-head-bytes-requires
-payload-head-bytes-requires c κs = search needs
-
-field-bytes-requires : tie.Need-field-bytes-requires
-field-bytes-requires c κs = search needs
-
 add-len : tie.Need-add-len
 add-len c = omega (arith, sized c)
-
-add-write-outer : tie.Need-add-write-outer
-add-write-outer c = search needs
 
 add-write-outer-2 : tie.Need-add-write-outer-2
 add-write-outer-2 c = omega (arith, sized (c .before))
@@ -50,14 +41,8 @@ write-outer-requires c κs =
     let w = c .before .before .before .before .before .before .before .before .pre in
     (omega (arith, sized (c .before)), w .cids, w .sns)
 
-add-write-mmtp : tie.Need-add-write-mmtp
-add-write-mmtp c = search needs
-
 write-mmtp-requires : tie.Need-write-mmtp-requires
 write-mmtp-requires c κs = let z = sized (c .before .before .before .before .before) in search needs
-
-add-write-payload-head : tie.Need-add-write-payload-head
-add-write-payload-head c = search needs
 
 cast-write-payload-head : tie.Need-cast-write-payload-head
 cast-write-payload-head c = omega (arith, sized (c .before .before .before .before .before .before .before .before .before))
@@ -68,12 +53,6 @@ write-payload-head-requires c κs =
     let z = sized d in
     (search needs, d .before .before .before .before .before .before .before .pre .kinds, omega (arith, z))
 
-add-write-fields : tie.Need-add-write-fields
-add-write-fields c = search needs
-
-add-write-fields-2 : tie.Need-add-write-fields-2
-add-write-fields-2 c = search needs
-
 write-fields-requires : tie.Need-write-fields-requires
 write-fields-requires c κs =
     let x3 = c .before .before .before in
@@ -81,18 +60,6 @@ write-fields-requires c κs =
     let x1 = x2 .before .before .before .before in
     let z = sized (x1 .before .before) in
     omega (arith, z, x3 .write-payload-head .kept, x2 .write-mmtp .kept, x1 .write-outer .kept)
-
-head-bytes-requires : tie.Need-head-bytes-requires
-head-bytes-requires c κs = search needs
-
-add-copy-at : tie.Need-add-copy-at
-add-copy-at c = search needs
-
-copy-at-requires : tie.Need-copy-at-requires
-copy-at-requires c κs = search needs
-
-same-length : tie.Need-same-length
-same-length c = search needs
 
 returns : tie.Need-returns
 unfolding headBytes packetOf mmtpOf dataUnit
@@ -131,23 +98,23 @@ pub write-packet-spec : {M : Type 1} → statement M
 write-packet-spec =
     tie.close
     (tie.spec
-    payload-head-bytes-requires
-    field-bytes-requires
+    (λ c κs. search needs)
+    (λ c κs. search needs)
     add-len
-    add-write-outer
+    (λ c. search needs)
     add-write-outer-2
     cast-write-outer
     write-outer-requires
-    add-write-mmtp
+    (λ c. search needs)
     write-mmtp-requires
-    add-write-payload-head
+    (λ c. search needs)
     cast-write-payload-head
     write-payload-head-requires
-    add-write-fields
-    add-write-fields-2
+    (λ c. search needs)
+    (λ c. search needs)
     write-fields-requires
-    head-bytes-requires
-    add-copy-at
-    copy-at-requires
-    same-length
+    (λ c κs. search needs)
+    (λ c. search needs)
+    (λ c κs. search needs)
+    (λ c. search needs)
     returns)

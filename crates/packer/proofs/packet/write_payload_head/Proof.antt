@@ -13,26 +13,17 @@ write-signalling-requires c κs =
     let l = head-4 (c .before .before .before .before .args .p .unit .kind) (c .before .if1 .taken) in
     omega (arith, c .before .before .before .before .pre .0)
 
-add-write-mpu : tie.Need-add-write-mpu
-add-write-mpu c = search needs
-
 write-mpu-requires : tie.Need-write-mpu-requires
 write-mpu-requires c κs =
     let s = c .before .before .before .before in
     let l = head-not-4 (s .args .p .unit .kind) (c .before .if1 .left) in
     (omega (arith, s .pre .0), omega (arith, s .pre .1, c .before .if1 .left))
 
-same-length : tie.Need-same-length
-same-length c = search needs
-
 returns : tie.Need-returns
 unfolding payloadHead payloadHeadBytes
 returns c =
     let d = c .before .before .before .before in
     rw (eq-eqb _ _ (d .if1 .taken)) (c .before .before .write-signalling .ensures)
-
-same-length-2 : tie.Need-same-length-2
-same-length-2 c = search needs
 
 returns-2 : tie.Need-returns-2
 unfolding payloadHead payloadHeadBytes
@@ -45,9 +36,9 @@ write-payload-head-spec =
     tie.close
     (tie.spec
     write-signalling-requires
-    add-write-mpu
+    (λ c. search needs)
     write-mpu-requires
-    same-length
+    (λ c. search needs)
     returns
-    same-length-2
+    (λ c. search needs)
     returns-2)

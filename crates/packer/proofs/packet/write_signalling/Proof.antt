@@ -9,24 +9,6 @@ use borrow.Author.Needs.{needs}
 use Rattle.packer.proofs.packet.write_signalling.Statement.{statement}
 use Rattle.packer.proofs.packet.write_signalling.Tie as tie
 
-indicator-bits-requires : tie.Need-indicator-bits-requires
-indicator-bits-requires c κs = search needs
-
-mul-write8 : tie.Need-mul-write8
-mul-write8 c = search needs
-
-write8-requires : tie.Need-write8-requires
-write8-requires c κs = search needs
-
-add-write8 : tie.Need-add-write8
-add-write8 c = search needs
-
-write8-requires-2 : tie.Need-write8-requires-2
-write8-requires-2 c κs = search needs
-
-same-length : tie.Need-same-length
-same-length c = search needs
-
 returns : tie.Need-returns
 unfolding signallingHead
 returns c =
@@ -42,10 +24,10 @@ pub write-signalling-spec : {M : Type 1} → statement M
 write-signalling-spec =
     tie.close
     (tie.spec
-    indicator-bits-requires
-    mul-write8
-    write8-requires
-    add-write8
-    write8-requires-2
-    same-length
+    (λ c κs. search needs)
+    (λ c. search needs)
+    (λ c κs. search needs)
+    (λ c. search needs)
+    (λ c κs. search needs)
+    (λ c. search needs)
     returns)

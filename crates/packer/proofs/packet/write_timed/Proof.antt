@@ -10,36 +10,6 @@ use borrow.Author.Needs.{needs}
 use Rattle.packer.proofs.packet.write_timed.Statement.{statement}
 use Rattle.packer.proofs.packet.write_timed.Tie as tie
 
-write32-requires : tie.Need-write32-requires
-write32-requires c κs = search needs
-
-add-write32 : tie.Need-add-write32
-add-write32 c = search needs
-
-write32-requires-2 : tie.Need-write32-requires-2
-write32-requires-2 c κs = search needs
-
-add-write32-2 : tie.Need-add-write32-2
-add-write32-2 c = search needs
-
-write32-requires-3 : tie.Need-write32-requires-3
-write32-requires-3 c κs = search needs
-
-add-write8 : tie.Need-add-write8
-add-write8 c = search needs
-
-write8-requires : tie.Need-write8-requires
-write8-requires c κs = search needs
-
-add-write8-2 : tie.Need-add-write8-2
-add-write8-2 c = search needs
-
-write8-requires-2 : tie.Need-write8-requires-2
-write8-requires-2 c κs = search needs
-
-same-length : tie.Need-same-length
-same-length c = search needs
-
 returns : tie.Need-returns
 unfolding timedFields bytesOf
 returns c =
@@ -61,14 +31,14 @@ pub write-timed-spec : {M : Type 1} → statement M
 write-timed-spec =
     tie.close
     (tie.spec
-    write32-requires
-    add-write32
-    write32-requires-2
-    add-write32-2
-    write32-requires-3
-    add-write8
-    write8-requires
-    add-write8-2
-    write8-requires-2
-    same-length
+    (λ c κs. search needs)
+    (λ c. search needs)
+    (λ c κs. search needs)
+    (λ c. search needs)
+    (λ c κs. search needs)
+    (λ c. search needs)
+    (λ c κs. search needs)
+    (λ c. search needs)
+    (λ c κs. search needs)
+    (λ c. search needs)
     returns)

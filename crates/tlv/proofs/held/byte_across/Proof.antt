@@ -9,19 +9,10 @@ use borrow.Author.Needs.{needs}
 use Rattle.tlv.proofs.held.byte_across.Statement.{statement}
 use Rattle.tlv.proofs.held.byte_across.Tie as tie
 
-shared-slice-read-result : tie.Need-shared-slice-read-result
-shared-slice-read-result c = search needs
-
 returns : tie.Need-returns
 returns c =
     let a = c .before .before .args in
     sym (List·getD-append (a .held .now) (a .s .now) 0 (a .i) (search needs))
-
-sub-j : tie.Need-sub-j
-sub-j c = search needs
-
-shared-slice-read-result-2 : tie.Need-shared-slice-read-result-2
-shared-slice-read-result-2 c = search needs
 
 returns-2 : tie.Need-returns-2
 returns-2 c =
@@ -39,9 +30,9 @@ pub byte-across-spec : {M : Type 1} → statement M
 byte-across-spec =
     tie.close
     (tie.spec
-    shared-slice-read-result
+    (λ c. search needs)
     returns
-    sub-j
-    shared-slice-read-result-2
+    (λ c. search needs)
+    (λ c. search needs)
     returns-2
     returns-3)

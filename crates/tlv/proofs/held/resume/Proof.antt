@@ -7,27 +7,12 @@ use borrow.Author.Needs.{needs}
 use Rattle.tlv.proofs.held.resume.Statement.{statement}
 use Rattle.tlv.proofs.held.resume.Tie as tie
 
-before-top-requires : tie.Need-before-top-requires
-before-top-requires c κs = search needs
-
 returns : tie.Need-returns
 returns c = c .before-top .ensures ∙ sym (nothing-held _ _ _ _ (c .before .if1 .taken))
-
-total-across-requires : tie.Need-total-across-requires
-total-across-requires c κs = search needs
 
 returns-2 : tie.Need-returns-2
 returns-2 c =
     sym (held-too-long _ _ _ _ (c .before .before .if1 .left) (rw (c .before .total-across .ensures .0) at (c .if2 .taken)))
-
-distance-requires : tie.Need-distance-requires
-distance-requires c κs = search needs
-
-without-top-requires : tie.Need-without-top-requires
-without-top-requires c κs = search needs
-
-before-top-requires-2 : tie.Need-before-top-requires-2
-before-top-requires-2 c κs = search needs
 
 -- past the tests of length and total: where the held packet ends
 ends : (d : tie.After-distance)
@@ -55,12 +40,12 @@ pub resume-spec : {M : Type 1} → statement M
 resume-spec =
     tie.close
     (tie.spec
-    before-top-requires
+    (λ c κs. search needs)
     returns
-    total-across-requires
+    (λ c κs. search needs)
     returns-2
-    distance-requires
-    without-top-requires
-    before-top-requires-2
+    (λ c κs. search needs)
+    (λ c κs. search needs)
+    (λ c κs. search needs)
     returns-3
     returns-4)

@@ -23,12 +23,6 @@ abbrev μ-loop : tie.MeasureT-loop
 loop-holds : tie.Need-loop-holds Inv-loop μ-loop
 loop-holds c = (search needs, refl)
 
-shared-slice-read-good-first : tie.Need-shared-slice-read-good-first Inv-loop μ-loop
-shared-slice-read-good-first c = search needs
-
-good-first-requires : tie.Need-good-first-requires Inv-loop μ-loop
-good-first-requires c κs = search needs
-
 -- past the loop's first test: the slot, the place, and that the byte there is good
 abbrev slot : tie.Else1 Inv-loop μ-loop → List ℕ
 slot d = d .before .before .before .before .before .before .args .s .now
@@ -46,20 +40,11 @@ returns c =
     let bad = marked-at _ _ (d .loop-test .taken) ∙ sym (c .before .good-first .ensures) ∙ not-true _ (c .if1 .taken) in
     sym (walk-unmarked _ _ bad) ∙ d .before .loop .inv .1
 
-sub-if2 : tie.Need-sub-if2 Inv-loop μ-loop
-sub-if2 c = search needs
-
 returns-2 : tie.Need-returns-2 Inv-loop μ-loop
 returns-2 c =
     let d = c .before in
     let l = d .before .before .before .before .loop in
     sym (walk-tail _ _ (l .inv .0) (good d) (header-past (slot d) (place d) (c .if2 .taken))) ∙ l .inv .1
-
-total-at-requires : tie.Need-total-at-requires Inv-loop μ-loop
-total-at-requires c κs = search needs
-
-sub-if3 : tie.Need-sub-if3 Inv-loop μ-loop
-sub-if3 c = search needs
 
 returns-3 : tie.Need-returns-3 Inv-loop μ-loop
 returns-3 c =
@@ -68,9 +53,6 @@ returns-3 c =
     let past = rw (c .before .total-at .ensures .0) at (c .if3 .taken) in
     let short = packet-past (slot d) (place d) (c .before .before .if2 .left) past in
     sym (walk-tail _ _ (l .inv .0) (good d) short) ∙ l .inv .1
-
-add-at : tie.Need-add-at Inv-loop μ-loop
-add-at c = search needs
 
 loop-less : tie.Need-loop-less Inv-loop μ-loop
 loop-less c =
@@ -99,15 +81,15 @@ walk-spec =
     Inv-loop
     μ-loop
     loop-holds
-    shared-slice-read-good-first
-    good-first-requires
+    (λ c. search needs)
+    (λ c κs. search needs)
     returns
-    sub-if2
+    (λ c. search needs)
     returns-2
-    total-at-requires
-    sub-if3
+    (λ c κs. search needs)
+    (λ c. search needs)
     returns-3
-    add-at
+    (λ c. search needs)
     loop-less
     loop-again
     returns-4)

@@ -15,17 +15,8 @@ returns-2 c = sym (sound-without-top _ _ _ (c .before .if1 .taken) ∙ rw (ne-eq
 returns-3 : tie.Need-returns-3
 returns-3 c = sym (unsound-outside _ _ _ (c .before .if1 .left) (c .if3 .taken))
 
-walk-requires : tie.Need-walk-requires
-walk-requires c κs = search needs
-
 enum-told : tie.Need-enum-told
 enum-told c = search needs
-
-enum-known-w : tie.Need-enum-known-w
-enum-known-w c = search needs
-
-last-pointer-requires : tie.Need-last-pointer-requires
-last-pointer-requires c κs = search needs
 
 returns-4 : tie.Need-returns-4
 returns-4 c =
@@ -48,9 +39,9 @@ is-sound-spec =
     returns
     returns-2
     returns-3
-    walk-requires
+    (λ c κs. search needs)
     enum-told
-    enum-known-w
-    last-pointer-requires
+    (λ c. search needs)
+    (λ c κs. search needs)
     returns-4
     returns-5)
