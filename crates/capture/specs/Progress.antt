@@ -13,8 +13,8 @@ use Rattle.capture.specs.Waits.{waits}
 use Rattle.capture.specs.Steps.{Poured, pouredOf}
 use Rattle.capture.specs.Feed.{fedOf}
 
--- feed reads at least one byte of a block that is not empty, unless there is no room for a line, the command memory is too short,
--- next is owed, or the session has ended
+-- feed reads at least one byte of a block that is not empty, unless there is no room for a line, the command memory or the state memory
+-- is too short, next is owed, or the session has ended
 abbrev pub FeedGetsOn : Type 0
 FeedGetsOn =
     (s : Session) (held : ℕ) (command block p c out : List ℕ) → 1 ≤ length block → longestLine ≤ length out → longestCommand ≤ length command

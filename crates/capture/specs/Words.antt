@@ -7,7 +7,7 @@ use lib.ListN.{length}
 use Rattle.delivery.specs.declared.event.Event.{Event}
 use Rattle.delivery.specs.declared.event.Event.the-variants.{Nothing, Note, Unit, Refused}
 use Rattle.receiver.specs.State.{State, Called, withOwed}
-use Rattle.receiver.specs.Words.{stateWords, stateIn, Exact}
+use Rattle.receiver.specs.Words.{stateWords, stateIn, Clean, Exact}
 use Rattle.capture.specs.declared.session.Session.{Session as Values}
 use Rattle.capture.specs.declared.session.Progress.{Progress as ValuesProgress}
 use Rattle.capture.specs.declared.feed.Fed.{Fed as ValuesFed}
@@ -55,7 +55,7 @@ pub record Feeds (s : Values) (held : ℕ) (before command p c out : List ℕ) (
 pub record Begins (before : List ℕ) (r : Values) (after : List ℕ) : Type 0 where
   pub values : r ≡ freshValues
   pub short : length before < stateWords → after ≡ before
-  pub long : stateWords ≤ length before → sessionIn r after ≡ freshSession
+  pub long : stateWords ≤ length before → (sessionIn r after ≡ freshSession) × Clean after
   pub exact : Exact before after
 
 -- Laws.

@@ -78,7 +78,7 @@ fn next_frame(session: Session) -> Session
     Session { tally, ..session }
 }
 
-// The slot that was due.
+// The slot that was due, counted from 1: after the call, the next one counted from 0.
 fn next_slot(session: Session, words: &[u64]) -> Session
     requires { ⌜ stateWords ≤ length (now words) ⌝ }
     ensures { λ r. ⌜ sessionIn r (now (words .entry)) ≡ afterCall Letter.Slot (sessionIn session (now (words .entry))) ⌝ }

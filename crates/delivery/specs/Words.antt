@@ -195,7 +195,7 @@ pub record Joins (before : List ℕ) (i k : ℕ) (l : Located) (p c : List ℕ) 
   pub queue-clean : CleanQueue after i
   pub channel-clean : let n = channelPlace k (l .packet .place) in CleanChannel before n → CleanChannel after n
 
--- a TLV packet comes to its packet_id, and to the queue, which is empty
+-- a TLV packet comes to its packet_id and to the queue; what waited there is replaced, a silent packet leaves it
 pub record Receives (config : Config) (before : List ℕ) (i k : ℕ) (p c : List ℕ) (start end : ℕ) (after d : List ℕ) : Type 0 where
   pub received : let a = arrivedAt config p start end in
       let n = channelPlace k (placeOf a) in

@@ -252,7 +252,7 @@ fn join(
     give(t, i, j, l, base, u);
 }
 
-// The TLV packet that stands from `start` to `end` comes to its packet_id, and to an empty queue.
+// The TLV packet that stands from `start` to `end` comes to its packet_id; what it has yet to give takes the place of what waited there.
 pub fn receive(
     config: Config,
     t: &mut [u64],

@@ -236,29 +236,37 @@ zero-flag : 0 ≡ flagWord (flagOf 0)
 unfolding flagOf
 zero-flag = refl
 
--- a fresh receiver: clean, whatever stood there
-pub exact-fresh : (t u v : List ℕ) (x : Config) → Cleared t u → ConfigStored u v 0 x → Exact t (set v 20 120)
-exact-fresh t u v x z s =
-    let y = set v 20 120 in
-    let w = set-within v 20 120 in
-    let k = kept-words v y 20 1 w in
-    let zero : (m : ℕ) → 21 ≤ m → m < stateWords → getD y m 0 ≡ 0 =
-    λ m h g. w .elsewhere m (inr h) ∙ s .put .above m (omega arith) ∙ z .zero m g in
-    record {
-      size = w .size ∙ s .put .size ∙ z .size;
-      rest = λ m h. w .elsewhere m (inr (omega arith)) ∙ s .put .above m (omega arith) ∙ z .rest m h;
-      clean = λ c. record {
-        config = kept-clean v y 0 20 _ _ (k 0 20 (inl (omega arith))) (ap configWords (config-same y 0 v 0 (k 0 20 (inl (omega arith)))))
-            (config-clean u v 0 x s);
+-- a fresh receiver
+module _ (t u v : List ℕ) (x : Config) (z : Cleared t u) (s : ConfigStored u v 0 x) where
+  abbrev fresh : List ℕ
+  fresh = set v 20 120
+
+  zero : (m : ℕ) → 21 ≤ m → m < stateWords → getD fresh m 0 ≡ 0
+  zero m h g = set-within v 20 120 .elsewhere m (inr h) ∙ s .put .above m (omega arith) ∙ z .zero m g
+
+  -- is clean, whatever stood there
+  pub fresh-clean : Clean fresh
+  fresh-clean =
+      let k = kept-words v fresh 20 1 (set-within v 20 120) 0 20 (inl (omega arith)) in
+      record {
+        config = kept-clean v fresh 0 20 _ _ k (ap configWords (config-same fresh 0 v 0 k)) (config-clean u v 0 x s);
         owed = rw (zero 21 (omega arith) (omega arith)) zero-flag;
-        held = held-zero-clean y 22 (λ j g. zero (22 + j) (omega arith) (omega arith));
-        cursor = cursor-zero-clean y 25 (λ j g. zero (25 + j) (omega arith) (omega arith));
-        queue = queue-zero-clean y 30 (λ j g. zero (30 + j) (omega arith) (omega arith));
+        held = held-zero-clean fresh 22 (λ j g. zero (22 + j) (omega arith) (omega arith));
+        cursor = cursor-zero-clean fresh 25 (λ j g. zero (25 + j) (omega arith) (omega arith));
+        queue = queue-zero-clean fresh 30 (λ j g. zero (30 + j) (omega arith) (omega arith));
         channels = λ i g.
-            channel-zero-clean y (channelPlace 47 i) (λ j e. zero (channelPlace 47 i + j) (omega arith) (omega arith));
-        slots = λ i g. slot-zero y i (λ j e. zero (271 + 4 * i + j) (omega arith) (omega arith));
-      };
-    }
+            channel-zero-clean fresh (channelPlace 47 i) (λ j e. zero (channelPlace 47 i + j) (omega arith) (omega arith));
+        slots = λ i g. slot-zero fresh i (λ j e. zero (271 + 4 * i + j) (omega arith) (omega arith));
+      }
+
+  pub exact-fresh : Exact t fresh
+  exact-fresh =
+      let w = set-within v 20 120 in
+      record {
+        size = w .size ∙ s .put .size ∙ z .size;
+        rest = λ m h. w .elsewhere m (inr (omega arith)) ∙ s .put .above m (omega arith) ∙ z .rest m h;
+        clean = λ c. fresh-clean;
+      }
 
 -- clean words that hold the same state, with the same words behind them, are the same
 module _ (t u : List ℕ) (c : Clean t) (d : Clean u) (e : stateIn t ≡ stateIn u) where

@@ -57,7 +57,7 @@ startRefusal c =
     (cond (twice (c .watch) (c .watch .n)) 2
     (cond (ltb 4095 (c .cid)) 3 (cond (ltb (c .rules .limit) 1 || ltb 1048576 (c .rules .limit)) 4 0)))
 
--- what comes back beside a refusal
+-- the settings before any start
 abbrev pub blankConfig : Config
 blankConfig = record { stream = 0; cid = 0; watch = record { ids = replicate 16 0; n = 0 }; rules = record { limit = 0 } }
 

@@ -71,8 +71,9 @@ pub record Clean (t : List ℕ) : Type 0 where
   pub channels : (k : ℕ) → k < 16 → CleanChannel t (channelPlace 47 k)
   pub slots : (s : ℕ) → s < 120 → CleanSlot t s
 
--- what a call leaves beside the state that is read: clean words clean, and words behind the receiver's as they were. So no word is left
--- free: start makes clean words, and clean words that hold the same state are the same (`clean-one`, specs/Clean.antt).
+-- what a call leaves beside the state that is read: clean words clean, and words behind the receiver's as they were. So after an accepted
+-- start no word is left free: it leaves clean words (`Starts`), and clean words that hold the same state are the same (`clean-one`,
+-- specs/Clean.antt).
 pub record Exact (before after : List ℕ) : Type 0 where
   pub size : length after ≡ length before
   pub rest : (m : ℕ) → stateWords ≤ m → getD after m 0 ≡ getD before m 0
@@ -86,6 +87,11 @@ pub record Leaves (before m : List ℕ) (r : ℕ) (after n : List ℕ) (x : Call
   pub kept : (r ≡ 0 → ⊥) → after ≡ before
   pub exact : Exact before after
 
+-- the same of start, whose words are clean where it is accepted, whatever stood there
+pub record Starts (before : List ℕ) (r : ℕ) (after : List ℕ) (x : Called) : Type 0 where
+  pub leaves : Leaves before [] r after [] (x, [])
+  pub clean : r ≡ 0 → Clean after
+
 -- the same of next, which answers an event
 pub record Answers (before c : List ℕ) (r : Event) (after d : List ℕ) (x : Answer × List ℕ) : Type 0 where
   pub short : length before < stateWords → (r ≡ Refused 90) × (d ≡ c)
@@ -97,6 +103,11 @@ pub record Answers (before c : List ℕ) (r : Event) (after d : List ℕ) (x : A
 pub record Sets (before after : List ℕ) (st : State) : Type 0 where
   pub state : stateIn after ≡ st
   pub exact : Exact before after
+
+-- a fresh receiver, whatever stood there
+pub record Fresh (before after : List ℕ) (st : State) : Type 0 where
+  pub sets : Sets before after st
+  pub clean : Clean after
 
 pub record Reads (before : List ℕ) (r : Event) (after d : List ℕ) (x : Answer × List ℕ) : Type 0 where
   pub answer : (record { event = r; state = stateIn after }, d) ≡ x

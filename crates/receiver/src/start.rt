@@ -1,9 +1,8 @@
 // Start: a fresh receiver, or refusals 1 to 4.
 ghost use mathlib.Core.Path.{_≡_};
-ghost use mathlib.Core.List.{[]};
 ghost use Prim.Native.Nat.{_≤_};
 ghost use lib.ListN.{length};
-ghost use Rattle.receiver.specs.Words.{stateWords, stateIn, Sets, Leaves, Cleared};
+ghost use Rattle.receiver.specs.Words.{stateWords, stateIn, Starts, Fresh, Cleared};
 ghost use Rattle.receiver.specs.Start.{twice, freshState, startRefusal, startFrom};
 use crate::words::AT;
 use crate::words::CONFIG;
@@ -61,7 +60,7 @@ fn refusal(config: Config) -> u8
     0
 }
 
-// 0 in every word.
+// 0 in each of the receiver's words; those behind stay as they were.
 fn clear(words: &mut [u64])
     requires { ⌜ stateWords ≤ length (now words) ⌝ }
     ensures { λ _. ⌜ Cleared (now (words .entry)) (now (words .exit)) ⌝ }
@@ -76,7 +75,7 @@ fn clear(words: &mut [u64])
 // A receiver that has read nothing.
 pub fn put_fresh(words: &mut [u64], config: Config)
     requires { ⌜ stateWords ≤ length (now words) ⌝ }
-    ensures { λ _. ⌜ Sets (now (words .entry)) (now (words .exit)) (freshState config) ⌝ }
+    ensures { λ _. ⌜ Fresh (now (words .entry)) (now (words .exit)) (freshState config) ⌝ }
 {
     clear(words);
     store_config(words, CONFIG, config);
@@ -84,7 +83,7 @@ pub fn put_fresh(words: &mut [u64], config: Config)
 }
 
 pub fn start(config: Config, words: &mut [u64]) -> u8
-    ensures { λ r. ⌜ Leaves (now (words .entry)) [] r (now (words .exit)) [] (startFrom (stateIn (now (words .entry))) config, []) ⌝ }
+    ensures { λ r. ⌜ Starts (now (words .entry)) r (now (words .exit)) (startFrom (stateIn (now (words .entry))) config) ⌝ }
 {
     if words.len() < STATE_WORDS {
         return 90;

@@ -42,7 +42,7 @@ returns c =
     let s = c .before .before in
     let e = s .before .before .before in
     rw (e .enum-told .given .1, ← s .before .before .config .ensures)
-    (calls _ _ _ _ _ (e .before .before .before .before .before .before .pre .0) (s .start .ensures))
+    (calls _ _ _ _ _ (e .before .before .before .before .before .before .pre .0) (s .start .ensures .leaves))
 
 returns-2 : tie.Need-returns-2
 unfolding callOf

@@ -21,8 +21,8 @@ returns c =
     record {
       values = refl;
       short = λ h. absurd (omega arith);
-      long = λ h. rw (f .put-fresh .ensures .state);
-      exact = f .put-fresh .ensures .exact;
+      long = λ h. (rw (f .put-fresh .ensures .sets .state), f .put-fresh .ensures .clean);
+      exact = f .put-fresh .ensures .sets .exact;
     }
 
 returns-2 : tie.Need-returns-2

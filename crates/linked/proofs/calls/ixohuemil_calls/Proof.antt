@@ -65,7 +65,7 @@ first s e p c b n = let z : n - 0 ≡ n = omega arith in rw (z, e) (after-none _
 loop-holds : tie.Need-loop-holds Inv-loop μ-loop
 loop-holds c =
     let g = c .before .begin .ensures in
-    (omega arith, omega arith, first _ (g .long (search needs)) _ _ _ _, refl, refl, g .exact .size)
+    (omega arith, omega arith, first _ (g .long (search needs) .0) _ _ _ _, refl, refl, g .exact .size)
 
 returns : tie.Need-returns Inv-loop μ-loop
 returns c =

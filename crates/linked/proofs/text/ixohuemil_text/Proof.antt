@@ -9,7 +9,7 @@ returns : tie.Need-returns
 returns c =
     let f = c .before .before .before .before .before .before .before .before .before .before .before .before .before in
     let g = f .before .before .before .before .before .before .before .begin .ensures in
-    let e = rw (g .long (omega arith)) at (f .feed .ensures .long (omega (arith, g .exact .size))) in
+    let e = rw (g .long (omega arith) .0) at (f .feed .ensures .long (omega (arith, g .exact .size))) in
     text-call _ _ _ _ _ e _ _ (c .before .before .finish .ensures)
 
 pub ixohuemil-text-spec : {M : Type 1} → statement M

@@ -3,7 +3,7 @@ use mathlib.Core.Path.{_∙_}
 use lib.ListN.{length-set}
 use Rattle.receiver.specs.Lent.{state-fresh}
 use borrow.Author.Needs.{needs}
-use Rattle.receiver.specs.Clean.{exact-fresh}
+use Rattle.receiver.specs.Clean.{exact-fresh, fresh-clean}
 use Rattle.receiver.proofs.start.put_fresh.Statement.{statement}
 use Rattle.receiver.proofs.start.put_fresh.Tie as tie
 
@@ -26,8 +26,12 @@ returns c =
     let d = c .before .before in
     let e = d .before .before .before .before in
     record {
-      state = state-fresh _ _ _ _ (e .before .before .before .pre) (e .clear .ensures) (d .store-config .ensures);
-      exact = exact-fresh _ _ _ _ (e .clear .ensures) (d .store-config .ensures);
+      sets =
+          record {
+            state = state-fresh _ _ _ _ (e .before .before .before .pre) (e .clear .ensures) (d .store-config .ensures);
+            exact = exact-fresh _ _ _ _ (e .clear .ensures) (d .store-config .ensures);
+          };
+      clean = fresh-clean _ _ _ _ (e .clear .ensures) (d .store-config .ensures);
     }
 
 pub put-fresh-spec : {M : Type 1} → statement M

@@ -1,6 +1,7 @@
 -- Why start meets its contract: too few words, accepted where there is no refusal, or refused.
 use mathlib.Core.List.{[]}
 use mathlib.Core.Path.{sym, _∙_, ap}
+use native.Mathlib.Omega.{arith}
 use Rattle.receiver.specs.Leaves.{leaves-short, leaves-refused, leaves-accepted}
 use Rattle.receiver.specs.Start.{start-fresh, start-kept}
 use Rattle.receiver.specs.State.{Called}
@@ -9,7 +10,7 @@ use Rattle.receiver.proofs.start.start.Statement.{statement}
 use Rattle.receiver.proofs.start.start.Tie as tie
 
 returns : tie.Need-returns
-returns c = leaves-short _ _ _ (c .if1 .taken)
+returns c = record { leaves = leaves-short _ _ _ (c .if1 .taken); clean = λ z. absurd (omega arith) }
 
 refusal-requires : tie.Need-refusal-requires
 refusal-requires c κs = search needs
@@ -24,14 +25,23 @@ returns-2 : tie.Need-returns-2
 returns-2 c =
     let f = c .before .before .before .before in
     let z = f .if2 .taken in
-    leaves-accepted _ _ _ _ _ _ _ (f .before .before .if1 .left) z (c .before .before .put-fresh .ensures)
-    (ap (λ (x : Called). (x, [])) (start-fresh _ _ (sym (f .before .refusal .ensures) ∙ z)))
+    let p = c .before .before .put-fresh .ensures in
+    record {
+      leaves =
+          leaves-accepted _ _ _ _ _ _ _ (f .before .before .if1 .left) z (p .sets)
+          (ap (λ (x : Called). (x, [])) (start-fresh _ _ (sym (f .before .refusal .ensures) ∙ z)));
+      clean = λ z. p .clean;
+    }
 
 returns-3 : tie.Need-returns-3
 returns-3 c =
     let e = c .before .refusal .ensures in
-    leaves-refused _ _ _ _ (c .before .before .if1 .left)
-    (rw e (ap (λ (x : Called). (x, [])) (start-kept _ _ (rw e at (c .if2 .left)))))
+    record {
+      leaves =
+          leaves-refused _ _ _ _ (c .before .before .if1 .left)
+          (rw e (ap (λ (x : Called). (x, [])) (start-kept _ _ (rw e at (c .if2 .left)))));
+      clean = λ z. absurd (c .if2 .left z);
+    }
 
 pub start-spec : {M : Type 1} → statement M
 start-spec =
