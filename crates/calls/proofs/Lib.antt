@@ -1,0 +1,4 @@
+-- The theorems.
+pub mod Refusals
+pub mod Often
+pub mod Taken

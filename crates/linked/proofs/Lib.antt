@@ -1,5 +1,0 @@
--- The theorems.
-pub mod Lines
-pub mod Refusals
-pub mod CallRefusals
-pub mod Texts
