@@ -1,4 +1,4 @@
 -- The theorems.
-pub mod Refusals
+pub mod Answers
 pub mod Often
 pub mod Taken

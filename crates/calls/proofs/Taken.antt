@@ -1,4 +1,4 @@
--- Why settings that are written for a configuration are taken for it.
+-- Why settings that are written for a configuration are taken for it, and which word of a record is which.
 use Prim.Native.Nat.{ℕ, zero, suc, _+_, _<_, _≤_}
 use mathlib.Core.Path.{_≡_, refl, sym, _∙_, ap}
 use mathlib.Core.Bool.{Bool, true, false, _&&_}
@@ -10,11 +10,12 @@ use lib.Dec.{leb}
 use lib.ListN.{length, getD, replicate, length-append}
 use Rattle.wire.specs.Words.{holds-front, holds-put}
 use Rattle.reassembly.specs.declared.config.Config.{Config}
-use Rattle.reassembly.specs.Words.{SizedConfig, readConfig, configWords, length-config, config-put}
+use Rattle.reassembly.specs.Words.{SizedConfig, readConfig, configWords, unitWords, fieldWords, length-config, config-put}
 use Rattle.receiver.specs.Start.{startFrom}
 use Rattle.calls.specs.Bounds.{areWithin}
-use Rattle.calls.specs.Settings.{most16, settingsMost, start-by}
-use Rattle.calls.specs.Claims.{settingsOf, SettingsClaim}
+use Rattle.calls.specs.Record.{unitRecord}
+use Rattle.calls.specs.Settings.{most16, most64, settingsMost, start-by}
+use Rattle.calls.specs.Claims.{settingsOf, SettingsClaim, RecordClaim}
 
 -- n words at most m each, and words behind them
 within-all : (n m : ℕ) (xs ys ms : List ℕ) → length xs ≡ n → ((k : ℕ) → k < n → getD xs k 0 ≤ m)
@@ -27,6 +28,7 @@ within-all (suc n) m (x ∷ xs) ys ms l h =
     rw (le-leb x m (h 0 (omega arith))) (within-all n m xs ys ms (omega arith) (λ k g. h (suc k) (omega arith)))
 
 read : (c : Config) → SizedConfig c → readConfig (settingsOf c) 0 ≡ c
+unfolding configWords
 read c s =
     let l = length-config c (s .count) in
     config-put (settingsOf c) (settingsOf c) 0 c
@@ -38,7 +40,7 @@ read c s =
       sized = s;
     })
 
-fit : (c : Config) → SizedConfig c → c .watch .n ≤ 18446744073709551615 → c .rules .limit ≤ 18446744073709551615
+fit : (c : Config) → SizedConfig c → c .watch .n ≤ most64 → c .rules .limit ≤ most64
     → areWithin (settingsOf c) settingsMost ≡ true
 unfolding areWithin settingsMost configWords
 fit c s n r =
@@ -54,3 +56,7 @@ fit c s n r =
 
 pub settings-claim : SettingsClaim
 settings-claim st c s n r = start-by st (settingsOf c) (fit c s n r) ∙ ap (startFrom st) (read c s)
+
+pub record-claim : RecordClaim
+unfolding unitRecord unitWords fieldWords
+record-claim g = refl

@@ -56,7 +56,7 @@ nextLeft t r =
     let e = r .0 .event in
     (refusalOf e, r .0 .state, r .1, cond (eqb (refusalOf e) 0) (putEvent t 0 e) t)
 
--- "92 a memory for events of fewer than 24 words", before next's own refusal
+-- 92 for a memory of fewer than 24 words (docs/DECISIONS.md), before next's own refusal
 unfoldable pub nextCall : State → List ℕ → List ℕ → List ℕ → NextLeft
 nextCall st p c t = cond (ltb (length t) recordWords) (92, st, c, t) (nextLeft t (nextOf st p c))
 

@@ -5,4 +5,5 @@ pub mod Record
 pub mod Events
 pub mod Show
 pub mod Words
+pub mod Examples
 pub mod Claims

@@ -160,7 +160,7 @@ module _ (t : List ℕ) where
 bound : (x y : ℕ) → x < y + 1 → leb x y ≡ true
 bound x y h = le-leb x y (omega arith)
 
--- the record of a unit, as next writes it, is one that the packer takes, for that unit
+-- the record of a unit is one that the packer takes, for that unit
 module _ (g : Given) (s : SizedUnit (g .unit)) where
   pub unit-read : readUnit (unitRecord g) 5 ≡ g .unit
   unfolding unitRecord

@@ -29,7 +29,7 @@ most64 = 18446744073709551615
 unfoldable pub settingsMost : List ℕ
 settingsMost = most16 ∷ most16 ∷ most64 ∷ most64 ∷ (replicate 16 most16 ++ replicate 12 0)
 
--- "91 settings of fewer than 32 words, or with a word that its setting cannot have", before start's own refusals
+-- 91 for settings of fewer than 32 words or with a word that its setting cannot have (docs/DECISIONS.md), before start's own refusals
 unfoldable pub startBy : State → List ℕ → Called
 startBy st s = cond (areWithin s settingsMost) (startFrom st (readConfig s 0)) (refused 91 st)
 

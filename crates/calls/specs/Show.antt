@@ -16,11 +16,11 @@ use Rattle.calls.specs.Record.{recordWords, readPlace}
 abbrev pub Shown : Type 0
 Shown = ℕ × ℕ × List ℕ
 
--- "93 an output shorter than the unit"
+-- 93 for an output that is shorter than the unit (docs/DECISIONS.md)
 unfoldable pub copied : List ℕ → List ℕ → ℕ → Shown
 copied b out len = cond (ltb (length out) (length b)) (93, len, out) (0, length b, pasted out 0 b (length b))
 
--- "92 a record of fewer than 24 words"
+-- 92 for a record of fewer than 24 words, before that
 unfoldable pub showCall : List ℕ → List ℕ → List ℕ → List ℕ → ℕ → Shown
 showCall p c t out len = cond (ltb (length t) recordWords) (92, len, out) (copied (showOf p c (readPlace t 0)) out len)
 

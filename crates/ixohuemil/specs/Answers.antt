@@ -29,7 +29,7 @@ packCall u cid sn m s out len =
     let r = packOf u cid sn m s out in
     (packNumber (r .0), lengthLeft (r .0) len, r .1)
 
--- the packer's call, with the record t of a unit; "92" for any other record
+-- the packer's call, with the record t of a unit; 92 for any other record
 unfoldable pub packRecord : List ℕ → ℕ → ℕ → ℕ → List ℕ → List ℕ → ℕ → ℕ × ℕ × List ℕ
 packRecord t cid sn m s out len = cond (isUnitRecord t) (packCall (readUnit t 5) cid sn m s out len) (92, len, out)
 

@@ -39,7 +39,7 @@ CutCallTaken = (run : List ℕ) (l s : ℕ) (output : List ℕ) (top last : ℕ)
     → cutCall run l s output top last ≡ (0, top', last', output')
     → slotCut run l s output ≡ (Cut (record { 0 = top'; 1 = last' }), output')
 
--- the record of a unit, as next writes it, is one that the packer takes, for that unit
+-- the record of a unit whose fields have their widths, as `put_event` writes it, is one that the packer takes, for that unit
 abbrev pub PackGiven : Type 0
 PackGiven = (g : Given) (cid sn m : ℕ) (s out : List ℕ) (len : ℕ) → SizedUnit (g .unit)
     → g .place .start ≤ most64 → g .place .len ≤ most64

@@ -5,7 +5,7 @@ ghost use Rattle.calls.specs.Events.{nextCall, eventsCall};
 ghost use Rattle.calls.specs.Show.{showCall};
 ghost use Rattle.calls.specs.Words.{NextDone, EventsDone};
 
-// The next event, as a record. Refused with 90, 92 and 22.
+// The next event, as a record. Refused with 90, 92 or 22.
 #[no_mangle]
 pub extern "C" fn ixohuemil_next(
     state: &mut [u64],
@@ -20,7 +20,7 @@ pub extern "C" fn ixohuemil_next(
     calls::events::next_record(state, packet, collecting, event)
 }
 
-// Many events, as records one behind the other, up to a joined unit; how many, in `count`. Refused with 90, 92 and 22.
+// Many events, as records one after the other, up to a joined unit; how many, in `count`. Refused with 90, 92 or 22.
 #[no_mangle]
 pub extern "C" fn ixohuemil_events(
     state: &mut [u64],
@@ -36,7 +36,7 @@ pub extern "C" fn ixohuemil_events(
     calls::events::events(state, packet, collecting, events, count)
 }
 
-// A copy of the bytes of a unit that an event has, at the front of `output`; how many, in `len`. Refused with 92 and 93.
+// A copy of the bytes of a unit that an event has, at the front of `output`; how many, in `len`. Refused with 92 or 93.
 #[no_mangle]
 pub extern "C" fn ixohuemil_show(
     packet: &[u8],

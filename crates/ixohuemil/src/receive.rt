@@ -7,7 +7,7 @@ ghost use Rattle.receiver.specs.Frame.{frameOf, lostFrameOf};
 ghost use Rattle.receiver.specs.Slot.{slotOf, lostSlotOf};
 ghost use Rattle.calls.specs.Settings.{startBy};
 
-// A fresh receiver. Refused with 90, 91 and 1 to 4.
+// A fresh receiver. Refused with 90, 91 or 1 to 4.
 #[no_mangle]
 pub extern "C" fn ixohuemil_start(settings: &[u64], state: &mut [u64]) -> u8
     ensures { λ r. ⌜ Starts (now (state .entry)) r (now (state .exit)) (startBy (stateIn (now (state .entry))) (now (settings .entry))) ⌝ }
@@ -15,7 +15,7 @@ pub extern "C" fn ixohuemil_start(settings: &[u64], state: &mut [u64]) -> u8
     calls::settings::start_by(settings, state)
 }
 
-// The control block of a frame whose 120 slots follow. Refused with 90 and 10 to 14.
+// The control block of a frame whose 120 slots follow. Refused with 90 or 10 to 14.
 #[no_mangle]
 pub extern "C" fn ixohuemil_frame(state: &mut [u64], block: &[u8]) -> u8
     ensures { λ r. ⌜ Leaves (now (state .entry)) [] r (now (state .exit)) [] (frameOf (stateIn (now (state .entry))) (now (block .entry)), []) ⌝ }
@@ -23,7 +23,7 @@ pub extern "C" fn ixohuemil_frame(state: &mut [u64], block: &[u8]) -> u8
     receiver::frame::frame(state, block)
 }
 
-// A lost frame. Refused with 90 and 11.
+// A lost frame. Refused with 90 or 11.
 #[no_mangle]
 pub extern "C" fn ixohuemil_lost_frame(state: &mut [u64]) -> u8
     ensures { λ r. ⌜ Leaves (now (state .entry)) [] r (now (state .exit)) [] (lostFrameOf (stateIn (now (state .entry))), []) ⌝ }
@@ -31,7 +31,7 @@ pub extern "C" fn ixohuemil_lost_frame(state: &mut [u64]) -> u8
     receiver::frame::lost_frame(state)
 }
 
-// The slot that is due, with its data. Refused with 90 and 20 to 23.
+// The slot that is due, with its data. Refused with 90 or 20 to 23.
 #[no_mangle]
 pub extern "C" fn ixohuemil_slot(
     state: &mut [u64],
@@ -45,7 +45,7 @@ pub extern "C" fn ixohuemil_slot(
     receiver::slot::slot(state, packet, collecting, data)
 }
 
-// The slot that is due, lost. Refused with 90 and 20 to 22.
+// The slot that is due, lost. Refused with 90 or 20 to 22.
 #[no_mangle]
 pub extern "C" fn ixohuemil_lost_slot(state: &mut [u64], packet: &[u8], collecting: &[u8]) -> u8
     ensures { λ r. ⌜ Leaves (now (state .entry)) [] r (now (state .exit)) []
