@@ -14,7 +14,7 @@
  * it, a pointer of length 0 too must not be NULL, and memory that is written must not overlap other memory of the call.
  * Lengths count bytes of uint8_t, and words of 8 bytes of state, settings and events.
  *
- * Stack that a call needs: @STACK@ bytes; ixohuemil_text @STACK_TEXT@.
+ * A call needs 8 KiB of stack, ixohuemil_text 96 KiB.
  */
 #ifndef IXOHUEMIL_H
 #define IXOHUEMIL_H
@@ -37,8 +37,10 @@ extern "C" {
 #define IXOHUEMIL_FRAME_SLOTS 120         /* slots of a frame */
 #define IXOHUEMIL_MOST_SLOT_BYTES 5049    /* the longest slot */
 #define IXOHUEMIL_MOST_PIECE_BYTES 1400   /* the packer's piece size m */
-#define IXOHUEMIL_CAPTURE_COLLECTING 65536 /* collecting memory that tlv_capture lends */
+#define IXOHUEMIL_CAPTURE_COLLECTING 65536 /* collecting memory of tlv_capture */
 #define IXOHUEMIL_MOST_LINE_BYTES 152     /* room that ixohuemil_text wants for a line */
+#define IXOHUEMIL_STACK_BYTES 8192        /* stack of a call */
+#define IXOHUEMIL_TEXT_STACK_BYTES 98304  /* stack of ixohuemil_text */
 
 /* What a call answers. */
 enum {
