@@ -191,8 +191,9 @@ uint8_t ixohuemil_pack(const ixohuemil_event *unit, size_t unit_words, uint16_t 
 uint8_t ixohuemil_cut(const uint8_t *run, size_t run_bytes, size_t l, size_t s, uint8_t *output, size_t output_bytes,
                       uint16_t *top, uint16_t *last);
 
-/* Writes the lines of a whole capture to the front of `text`, as tlv_capture(1) prints them; answers how many bytes they
- * are. Once fewer than 152 bytes are left it stops: then lines are missing, the `end` line among them. */
+/* Writes the lines of a whole capture to the front of `text`; answers how many bytes they are. With 65,536 bytes of collecting
+ * memory they are those that tlv_capture(1) prints. Once fewer than 152 bytes are left it stops: then lines are missing, the
+ * `end` line among them. */
 uint64_t ixohuemil_text(const uint8_t *capture, size_t capture_bytes, uint8_t *packet, size_t packet_bytes, uint8_t *collecting,
                         size_t collecting_bytes, uint8_t *text, size_t text_bytes);
 
