@@ -63,10 +63,10 @@ check "the Rust example compiles" cargo build --offline --release --manifest-pat
     --target-dir "$made/rust"
 check "the Rust example has under 60 lines" under_60_lines bindings/rust/examples/capture.rs
 check "captures are generated" cargo run --offline --release --manifest-path tests/Cargo.toml --bin dump -- "$captures" 660
-for program in "$made/capture_c" "$made/rust/release/examples/capture"; do
-    name=$(basename "$(dirname "$program")")/$(basename "$program")
-    check "$name prints the worked example" prints_the_example "$program"
-    check "$name prints what tlv_capture prints of 660 captures" same "$program" "$captures"/*
+mv "$made/rust/release/examples/capture" "$made/capture_rust"
+for program in capture_c capture_rust; do
+    check "$program prints the worked example" prints_the_example "$made/$program"
+    check "$program prints what tlv_capture prints of 660 captures" same "$made/$program" "$captures"/*
 done
 
 # The calls on guarded memory; a capture of each family, 0 to 10, is also read in valgrind.

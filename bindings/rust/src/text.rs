@@ -64,6 +64,13 @@ mod tests {
     }
 
     #[test]
+    fn the_worked_example() {
+        let capture = include_bytes!("../../../crates/tlv_capture/stdin");
+        assert_eq!(text(capture), include_str!("../../../crates/tlv_capture/stdout"));
+        assert_eq!(text(&[]), "end 0 0 0\n");
+    }
+
+    #[test]
     fn too_little_room_shows_by_the_missing_end_line() {
         assert_eq!(text_within(&lost(3), 200), "end 3 0 0\n");
         assert_eq!(text_within(&lost(3), 151), "");
@@ -71,7 +78,7 @@ mod tests {
 
     #[test]
     fn a_text_above_the_first_room_is_whole() {
-        // A frame without a stream of the id is refused: one line. Each unit of the worked example gives one more.
+        // The worked example's frame again and again: its unit, note 40, and note 60, since its psn is always 7.
         let example = include_bytes!("../../../crates/tlv_capture/stdin");
         let mut capture = example.to_vec();
         for _ in 0..4000 {
