@@ -222,7 +222,45 @@ fn unit_of_record<'a>(record: &Record, bytes: &'a [u8]) -> Unit<'a> {
 
 #[cfg(test)]
 mod tests {
-    use super::part;
+    use super::{part, Cause, Event, Kind, Note, Unit};
+    use crate::link;
+
+    #[test]
+    fn a_note_has_a_packet_id_from_52_on() {
+        for &cause in Cause::ALL {
+            let mut record = [0; link::EVENT_WORDS];
+            (record[0], record[1], record[5]) = (link::NOTE, cause.number().into(), 0x1234);
+            let packet_id = (cause.number() >= 52).then_some(0x1234);
+            assert_eq!(Event::of_record(&record, &[], &[]), Some(Event::Note(Note { cause, packet_id })));
+        }
+        assert_eq!(Event::of_record(&[0; link::EVENT_WORDS], &[], &[]), None);
+    }
+
+    #[test]
+    fn a_units_record_says_its_fields_and_its_memory() {
+        let mut record = [0; link::EVENT_WORDS];
+        for (word, value) in record.iter_mut().zip([2, 0, 0, 1, 2, 5, 3, 7, 8, 9, 10, 11, 12, 13, 14]) {
+            *word = value;
+        }
+        let unit = Unit {
+            packet_id: 5,
+            kind: Kind::NonTimedMfu,
+            psn: 7,
+            mpu: 8,
+            movie_fragment: 9,
+            sample: 10,
+            offset: 11,
+            priority: 12,
+            dependency: 13,
+            item: 14,
+            bytes: b"bc",
+        };
+        assert_eq!(Event::of_record(&record, b"abcd", b"ABCD"), Some(Event::Unit(unit)));
+        record[2] = 1;
+        assert_eq!(Event::of_record(&record, b"abcd", b"ABCD"), Some(Event::Unit(Unit { bytes: b"BC", ..unit })));
+        (record[2], record[3], record[4]) = (0, 0, 0);
+        assert_eq!(unit.record(), record);
+    }
 
     #[test]
     fn a_place_outside_its_memory_is_empty() {
