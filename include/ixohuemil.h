@@ -1,10 +1,11 @@
 /* ixohuemil.h: the C interface of Ixohuemil, a receiver for ultra-high-definition satellite broadcasting.
  *
- * Control blocks and slots go in; notes and whole units come out. Link with libixohuemil.a; nothing else is needed.
+ * Control blocks and slots go in; notes and whole units come out. Link with libixohuemil.a; beside it only memcpy and memset
+ * of the C library are needed.
  *
- *   start                          once
- *   frame                          then 120 times: slot or lost_slot, and after each of them events until *count is 0
- *   lost_frame                     in place of a frame and its 120 slots; then events until *count is 0
+ *   start        once
+ *   frame        then 120 times slot or lost_slot, and after each of them events until *count is 0
+ *   lost_frame   in place of a frame and its 120 slots; then events until *count is 0
  *
  * Every call but text answers 0 (accepted) or the number of a refusal, tested in the order in which it is listed. A refused
  * call changes nothing that it was lent. No input is forbidden: damage inside a slot gives a note, a wrong call a refusal.

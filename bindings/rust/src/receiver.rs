@@ -253,7 +253,6 @@ impl fmt::Debug for Receiver {
 }
 
 /// Events that are lent together, by [`Receiver::events`]. Those that are not taken wait for the next call.
-#[derive(Debug)]
 pub struct Events<'a> {
     records: &'a [Record],
     given: &'a mut usize,
@@ -277,3 +276,9 @@ impl<'a> Iterator for Events<'a> {
 }
 
 impl ExactSizeIterator for Events<'_> {}
+
+impl fmt::Debug for Events<'_> {
+    fn fmt(&self, f: &mut fmt::Formatter<'_>) -> fmt::Result {
+        f.debug_struct("Events").field("left", &self.len()).finish_non_exhaustive()
+    }
+}

@@ -331,11 +331,19 @@ fn a_note_names_its_packet_id_from_52_on() {
 }
 
 #[test]
-fn a_receiver_may_move_to_another_thread() {
+fn receivers_read_on_several_threads_at_the_same_time() {
     let contents = contents();
-    let frame = frame(sent(&contents, 25).1);
-    let whole = events_of(&mut receiver(), &frame, by_next);
-    let mut moved = receiver();
-    let there = std::thread::scope(|scope| scope.spawn(|| events_of(&mut moved, &frame, by_events_kept)).join().unwrap());
-    assert_eq!(there, whole);
+    for m in [25, 400] {
+        let frame = &frame(sent(&contents, m).1);
+        let whole = events_of(&mut receiver(), frame, by_next);
+        std::thread::scope(|scope| {
+            let threads = READERS.map(|read| {
+                let moved = receiver();
+                scope.spawn(move || (0..20).map(|_| events_of(&mut moved.clone(), frame, read)).collect::<Vec<_>>())
+            });
+            for thread in threads {
+                assert!(thread.join().unwrap().iter().all(|there| *there == whole));
+            }
+        });
+    }
 }
