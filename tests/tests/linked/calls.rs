@@ -1,54 +1,120 @@
-//! Both memories after each call of a capture, and how many calls there are.
+//! The calls, one by one, beside the second decoder's: over captures of every family, with refused calls
+//! strewn in, and to the end also where the capture program would stop.
 
-use second::capture::Capture;
 use second::generate::catalogue::{self, FAMILIES};
+use second::generate::prng::Prng;
 
-use super::library;
 use super::memories::{filled, Lengths};
+use super::pair::{Pair, Seen};
+use super::records::{commands, Command, Settings};
+use super::strays::stray;
 
 /// Captures of each family.
 const EACH: u64 = 60;
 
-/// What the captures came to.
+/// How a capture's calls are made.
+#[derive(Clone, Copy)]
+pub struct Manner {
+    /// Refused calls before a call, in 100.
+    pub strays: usize,
+    /// Commands before nothing waits, in 100: their calls are refused.
+    pub early: usize,
+}
+
+pub const PLAIN: Manner = Manner {
+    strays: 0,
+    early: 0,
+};
+const STREWN: Manner = Manner {
+    strays: 10,
+    early: 5,
+};
+
+/// A reading that can be stopped between two calls, copied, and gone on with.
+#[derive(Clone)]
+pub struct Reading<'a> {
+    pub pair: Pair,
+    commands: Vec<Command<'a>>,
+    at: usize,
+    rng: u64,
+    manner: Manner,
+    block: &'a [u8],
+    settings: Settings,
+}
+
+impl<'a> Reading<'a> {
+    pub fn new(number: u64, capture: &'a [u8], lengths: Lengths, manner: Manner) -> Self {
+        let mut rng = Prng::new(number ^ 0x5EED);
+        let more = if number % 3 == 0 { 9 } else { 0 };
+        let memories = filled(number, capture, lengths);
+        Reading {
+            pair: Pair::new(format!("capture {number}"), &mut rng, more, memories),
+            commands: commands(capture),
+            at: 0,
+            rng: number,
+            manner,
+            block: &[],
+            settings: [0; 32],
+        }
+    }
+
+    /// Makes one call, with refused ones before it; whether there was one to make.
+    pub fn step(&mut self) -> bool {
+        self.rng += 0x1_0000;
+        let mut rng = Prng::new(self.rng);
+        let started = self.pair.ours.is_some();
+        while started && rng.chance(self.manner.strays, 100) {
+            stray(&mut self.pair, &mut rng, self.block, &self.settings);
+        }
+        let early = rng.chance(self.manner.early, 100);
+        if self.pair.owed && !early && self.pair.next(&mut rng).is_ok() {
+            return true;
+        }
+        let Some(&command) = self.commands.get(self.at) else {
+            return false;
+        };
+        let owed = self.pair.owed;
+        let answer = self.pair.call(&command);
+        match command {
+            Command::Start(settings) if answer == 0 => self.settings = settings,
+            Command::Frame(block) if answer == 0 => self.block = block,
+            _ => {}
+        }
+        // A command that came too early comes again once nothing waits.
+        if !(early && owed && answer != 0) {
+            self.at += 1;
+        }
+        true
+    }
+
+    pub fn read(&mut self) {
+        while self.step() {}
+    }
+}
+
+/// What captures came to.
 #[derive(Default)]
 struct Compared {
     calls: u64,
+    units: u64,
+    refused: u64,
     /// Captures that changed packet memory, and collecting memory.
     packet: u64,
     collecting: u64,
 }
 
-/// Compares the memories after each number of calls, up to one that the capture does not reach.
-fn compare(number: u64, lengths: Lengths, compared: &mut Compared) {
+fn compare(number: u64, lengths: Lengths, manner: Manner, compared: &mut Compared) -> Seen {
     let capture = catalogue::capture(number);
+    let mut reading = Reading::new(number, &capture, lengths, manner);
     let filling = filled(number, &capture, lengths);
-    let mut ours = Capture::with_memories(filling.0.clone(), filling.1.clone());
-    let (mut packet, mut collecting) = filling.clone();
-    let (mut rest, mut lines) = (&capture[..], Vec::new());
-    let mut made = 0;
-    let mut theirs = |calls: u64, ours: &Capture, made: u64| {
-        packet.copy_from_slice(&filling.0);
-        collecting.copy_from_slice(&filling.1);
-        let answer = library::calls(&capture, &mut packet, &mut collecting, calls);
-        let place = format!("capture {number}, {calls} calls");
-        assert_eq!(answer, made, "{place}: how many were made");
-        assert!(ours.memories().0 == packet, "{place}: packet memory");
-        assert!(
-            ours.memories().1 == collecting,
-            "{place}: collecting memory"
-        );
-    };
-    theirs(0, &ours, 0);
-    while let Some(behind) = ours.call_once(rest, &mut lines) {
-        rest = behind;
-        made += 1;
-        theirs(made, &ours, made);
-    }
-    theirs(made + 1, &ours, made);
-    theirs(u64::MAX, &ours, made);
-    compared.calls += made;
-    compared.packet += u64::from(ours.memories().0 != filling.0);
-    compared.collecting += u64::from(ours.memories().1 != filling.1);
+    reading.read();
+    let pair = reading.pair;
+    compared.calls += pair.seen.iter().sum::<u64>();
+    compared.refused += pair.seen[1..].iter().sum::<u64>();
+    compared.units += pair.units;
+    compared.packet += u64::from(pair.packet != filling.0);
+    compared.collecting += u64::from(pair.collecting != filling.1);
+    pair.seen
 }
 
 /// Compares captures of a family, most with memories just as long as it asks for.
@@ -60,15 +126,19 @@ fn compare_family(family: u64) -> Compared {
         } else {
             Lengths::Exact
         };
-        compare(family + i * FAMILIES.len() as u64, lengths, &mut compared);
+        let manner = if i % 2 == 0 { PLAIN } else { STREWN };
+        let number = family + i * FAMILIES.len() as u64;
+        compare(number, lengths, manner, &mut compared);
     }
     let Compared {
         calls,
+        units,
+        refused,
         packet,
         collecting,
     } = compared;
     let name = FAMILIES[family as usize];
-    println!("{EACH} captures, {name}: {calls} calls; {packet} and {collecting} changed a memory");
+    println!("{EACH} captures, {name}: {calls} calls, {refused} refused, {units} units; {packet} and {collecting} changed a memory");
     compared
 }
 
@@ -76,6 +146,7 @@ fn compare_family(family: u64) -> Compared {
 fn reaches_memories(family: u64) {
     let compared = compare_family(family);
     assert!(compared.calls > 200 * EACH);
+    assert!(compared.units > EACH);
     assert!(compared.packet > EACH / 2);
     assert!(compared.collecting > EACH / 4);
 }
@@ -102,12 +173,12 @@ fn slots_damaged() {
 
 #[test]
 fn commands_damaged() {
-    compare_family(4);
+    reaches_memories(4);
 }
 
 #[test]
 fn refusals() {
-    compare_family(5);
+    assert!(compare_family(5).refused > EACH);
 }
 
 #[test]
@@ -117,31 +188,59 @@ fn joining_noise() {
 
 #[test]
 fn slot_noise() {
-    compare_family(7);
+    assert!(compare_family(7).calls > 100 * EACH);
 }
 
 #[test]
 fn bytes() {
-    compare_family(8);
+    assert!(compare_family(8).calls > EACH);
 }
 
 #[test]
 fn boundaries_of_held_bytes() {
-    compare_family(9);
+    assert!(compare_family(9).packet == EACH);
 }
 
 #[test]
 fn packets_cut_at_every_byte() {
-    compare_family(10);
+    assert!(compare_family(10).calls > 100 * EACH);
 }
 
 #[test]
 fn memories_too_short() {
     let mut compared = Compared::default();
+    let mut seen = 0;
     for number in 0..10 * FAMILIES.len() as u64 {
-        compare(number, Lengths::PacketShort, &mut compared);
-        compare(number, Lengths::CollectingShort, &mut compared);
+        for lengths in [Lengths::PacketShort, Lengths::CollectingShort] {
+            seen += compare(number, lengths, PLAIN, &mut compared)[22];
+        }
     }
-    assert_eq!((compared.packet, compared.collecting), (0, 0));
-    assert!(compared.calls > 100);
+    println!("{} calls, {seen} refused with 22", compared.calls);
+    assert!(seen > 10_000);
+}
+
+/// Every refusal of the receiver and of its linkage comes, and each often.
+#[test]
+fn every_refusal() {
+    let mut all = [0; 256];
+    let manner = Manner {
+        strays: 60,
+        early: 20,
+    };
+    let mut compared = Compared::default();
+    for number in 0..4 * FAMILIES.len() as u64 {
+        let seen = compare(number, Lengths::Exact, manner, &mut compared);
+        for (sum, count) in all.iter_mut().zip(seen) {
+            *sum += count;
+        }
+    }
+    let due = [
+        1, 2, 3, 4, 10, 11, 12, 13, 14, 20, 21, 22, 23, 90, 91, 92, 93,
+    ];
+    for number in due {
+        println!("{number}: {}", all[number]);
+        assert!(all[number] > 20, "{number}");
+    }
+    let known = all[0] + due.iter().map(|&number| all[number]).sum::<u64>();
+    assert_eq!(known, all.iter().sum::<u64>());
 }

@@ -1,10 +1,18 @@
-//! The proved library beside the second decoder: both memories after each call, a capture's text, the
-//! packer, the cutter.
+//! The proved library beside the second decoder: each call with its answer and both memories, refused calls,
+//! copied and damaged states, many events for one call, a capture's text, the packer, the cutter.
 
 #[cfg(linked)]
 mod calls;
 #[cfg(linked)]
+mod copies;
+#[cfg(linked)]
 mod cutter;
+#[cfg(linked)]
+mod damaged;
+#[cfg(linked)]
+mod events;
+#[cfg(linked)]
+mod lent;
 #[cfg(linked)]
 mod library;
 #[cfg(linked)]
@@ -12,12 +20,22 @@ mod memories;
 #[cfg(linked)]
 mod packer;
 #[cfg(linked)]
+mod pair;
+#[cfg(linked)]
+mod records;
+#[cfg(linked)]
+mod refused;
+#[cfg(linked)]
+mod shown;
+#[cfg(linked)]
+mod strays;
+#[cfg(linked)]
 mod text;
 
 #[cfg(not(linked))]
 #[test]
 fn the_library_is_linked() {
     panic!(
-        "LINKED_LIB is not set: it is the whole path of target/staticlib/liblinked.a (see .ci/run)"
+        "IXOHUEMIL_LIB is not set: it is the whole path of target/staticlib/libixohuemil.a (see .ci/run)"
     );
 }

@@ -8,8 +8,11 @@ use second::slots::PACKET_MEMORY;
 /// The longest collecting memory; a capture that asks for more gets the capture program's.
 const MOST: usize = 300_000;
 
+/// Packet memory and collecting memory.
+pub type Memories = (Vec<u8>, Vec<u8>);
+
 /// How long the memories are, beside what the capture asks for.
-#[derive(Clone, Copy)]
+#[derive(Clone, Copy, PartialEq)]
 pub enum Lengths {
     Exact,
     Longer,
@@ -31,7 +34,7 @@ fn collecting_len(capture: &[u8]) -> usize {
 }
 
 /// Packet memory and collecting memory, with a pseudo-random filling.
-pub fn filled(number: u64, capture: &[u8], lengths: Lengths) -> (Vec<u8>, Vec<u8>) {
+pub fn filled(number: u64, capture: &[u8], lengths: Lengths) -> Memories {
     let mut rng = Prng::new(number ^ 0xF111);
     let (mut packet, mut collecting) = (PACKET_MEMORY, collecting_len(capture));
     match lengths {

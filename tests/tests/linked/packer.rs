@@ -4,13 +4,50 @@ use second::generate::prng::Prng;
 use second::packer::{pack, Head, Numbers, MAX_PIECE};
 use second::packets::{fields_len, UnitFields, KIND_ITEM, KIND_SIGNALLING};
 
-use super::library;
+use super::library::{self, RECORD, UNIT};
+use super::records::Record;
 
 const COUNT: u64 = 5_000;
 
+/// What a unit carries; an item id is a field of its own here.
+#[derive(Clone, Copy, Debug)]
+struct Unit {
+    packet_id: u16,
+    kind: u8,
+    psn: u32,
+    mpu: u32,
+    fields: UnitFields,
+    item: u32,
+    /// Words 1 to 4 of its record, which do not count.
+    place: [u64; 4],
+}
+
+impl Unit {
+    fn record(&self) -> Record {
+        let mut words = [0; RECORD];
+        words[0] = UNIT;
+        words[1..5].copy_from_slice(&self.place);
+        words[5..9].copy_from_slice(&[
+            self.packet_id.into(),
+            self.kind.into(),
+            self.psn.into(),
+            self.mpu.into(),
+        ]);
+        words[9..15].copy_from_slice(&[
+            self.fields.fragment.into(),
+            self.fields.sample.into(),
+            self.fields.offset.into(),
+            self.fields.priority.into(),
+            self.fields.dependency.into(),
+            self.item.into(),
+        ]);
+        words
+    }
+}
+
 /// What a call of the packer is given.
 struct Call {
-    unit: library::Unit,
+    unit: Unit,
     cid: u16,
     sn: u8,
     m: usize,
@@ -20,9 +57,9 @@ struct Call {
 }
 
 /// Fields of any value, also those that the kind lacks; an item id that is no movie fragment number.
-fn unit(rng: &mut Prng) -> library::Unit {
+fn unit(rng: &mut Prng) -> Unit {
     let psn = rng.u32();
-    library::Unit {
+    Unit {
         packet_id: rng.u16(),
         kind: rng.below(5) as u8,
         psn: rng.pick(&[0, u32::MAX - 3, u32::MAX, psn]),
@@ -35,6 +72,7 @@ fn unit(rng: &mut Prng) -> library::Unit {
             dependency: rng.byte(),
         },
         item: rng.u32(),
+        place: std::array::from_fn(|_| rng.u64()),
     }
 }
 
@@ -117,7 +155,7 @@ fn compare(call: &Call) -> u8 {
     let psn = unit.psn;
     let (mut ours, mut theirs) = (call.output.clone(), call.output.clone());
     let answer = pack(&head, &call.bytes, m, Numbers { cid, sn, psn }, &mut ours);
-    let other = library::pack(&unit, cid, sn, m, &call.bytes, &mut theirs);
+    let other = library::pack(&unit.record(), cid, sn, m, &call.bytes, &mut theirs);
     let place = format!(
         "{unit:?}, CID {cid}, SN {sn}, m {m}, {} bytes",
         call.bytes.len()
@@ -194,4 +232,75 @@ fn refused_units() {
     println!("0 {}, 70 to 74 {:?}", seen[0], &seen[70..75]);
     assert!(seen[70..75].iter().all(|&count| count > 100));
     assert_eq!(seen[0] + seen[70..75].iter().sum::<u64>(), COUNT);
+}
+
+/// Each word of the record that is one above its bound, a word 0 that says something else, and too few
+/// words: 92, before 70 to 74. At its bound a word is none of them.
+#[test]
+fn records_that_are_none_of_a_unit() {
+    let (byte, two, four) = (0xFF, 0xFFFF, 0xFFFF_FFFF);
+    let most = [two, byte, four, four, four, four, four, byte, byte, four];
+    let mut refused = 0;
+    for number in 0..200 {
+        let mut rng = Prng::new(number ^ 92);
+        let mut call = legal(&mut rng);
+        if number % 2 == 0 {
+            spoil(&mut rng, &mut call);
+        }
+        let good = call.unit.record();
+        let mut bad: Vec<Vec<u64>> = (0..RECORD).map(|words| good[..words].to_vec()).collect();
+        let mut with = |k: usize, word: u64| {
+            let mut record = good.to_vec();
+            record[k] = word;
+            bad.push(record);
+        };
+        let any = rng.u64().max(3);
+        [0, 1, 3, UNIT + (1 << 32), any].map(|word| with(0, word));
+        for k in 5..RECORD {
+            let bound: u64 = most.get(k - 5).copied().unwrap_or(0);
+            [bound + 1, bound + (1 << 33), u64::MAX].map(|word| with(k, word));
+        }
+        for record in bad {
+            let mut output = call.output.clone();
+            let answer = library::pack(&record, call.cid, call.sn, call.m, &call.bytes, &mut output);
+            assert_eq!(answer, (92, library::LEN), "{record:?}");
+            assert!(output == call.output, "output of a refused call");
+            refused += 1;
+        }
+    }
+    println!("{refused} calls refused with 92");
+    assert!(refused > 10_000);
+}
+
+/// Fields at their bounds, and words behind a record's 24, which do not count.
+#[test]
+fn records_at_their_bounds() {
+    let mut rng = Prng::new(5);
+    let mut call = legal(&mut rng);
+    for kind in 0..5 {
+        call.unit = Unit {
+            packet_id: u16::MAX,
+            kind,
+            psn: u32::MAX,
+            mpu: u32::MAX,
+            fields: UnitFields {
+                fragment: u32::MAX,
+                sample: u32::MAX,
+                offset: u32::MAX,
+                priority: u8::MAX,
+                dependency: u8::MAX,
+            },
+            item: u32::MAX,
+            place: [u64::MAX; 4],
+        };
+        call.output = vec![0xEE; written(kind, call.bytes.len(), call.m)];
+        assert_eq!(compare(&call), 0);
+        let record = [&call.unit.record()[..], &[u64::MAX; 5]].concat();
+        let (mut one, mut other) = (call.output.clone(), call.output.clone());
+        let (bytes, m) = (&call.bytes, call.m);
+        let long = library::pack(&record, call.cid, call.sn, m, bytes, &mut one);
+        let exact = library::pack(&record[..RECORD], call.cid, call.sn, m, bytes, &mut other);
+        assert_eq!((long.0, long), (0, exact));
+        assert!(one == other && one != call.output);
+    }
 }

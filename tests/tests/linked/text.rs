@@ -6,15 +6,12 @@ use second::generate::catalogue::{self, FAMILIES};
 use second::generate::prng::Prng;
 
 use super::library;
-use super::memories::{filled, Lengths};
+use super::memories::{filled, Lengths, Memories};
 
 /// Captures of each family.
 const EACH: u64 = 300;
 /// Bytes of the longest line: where fewer are left in text memory, the text stops.
 const LONGEST: usize = 152;
-
-/// Packet memory and collecting memory.
-type Memories = (Vec<u8>, Vec<u8>);
 
 /// The second decoder's lines of a capture, and the memories as it leaves them.
 fn second(capture: &[u8], (packet, collecting): Memories) -> (Vec<u8>, Memories) {
