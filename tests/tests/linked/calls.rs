@@ -7,10 +7,12 @@ use second::generate::prng::Prng;
 use super::memories::{filled, Lengths};
 use super::pair::{Pair, Seen};
 use super::records::{commands, Command, Settings};
-use super::strays::stray;
+use super::strays::{bad_frame, stray};
 
 /// Captures of each family.
-const EACH: u64 = 60;
+const EACH: u64 = 200;
+/// Bad frames before a frame, where refused calls are strewn in.
+const BAD_FRAMES: usize = 12;
 
 /// How a capture's calls are made.
 #[derive(Clone, Copy)]
@@ -25,7 +27,7 @@ pub const PLAIN: Manner = Manner {
     strays: 0,
     early: 0,
 };
-const STREWN: Manner = Manner {
+pub const STREWN: Manner = Manner {
     strays: 10,
     early: 5,
 };
@@ -73,6 +75,11 @@ impl<'a> Reading<'a> {
         let Some(&command) = self.commands.get(self.at) else {
             return false;
         };
+        if let (true, Command::Frame(block)) = (started && self.manner.strays > 0, command) {
+            for _ in 0..BAD_FRAMES {
+                bad_frame(&mut self.pair, &mut rng, block);
+            }
+        }
         let owed = self.pair.owed;
         let answer = self.pair.call(&command);
         match command {
@@ -228,7 +235,7 @@ fn every_refusal() {
         early: 20,
     };
     let mut compared = Compared::default();
-    for number in 0..4 * FAMILIES.len() as u64 {
+    for number in 0..10 * FAMILIES.len() as u64 {
         let seen = compare(number, Lengths::Exact, manner, &mut compared);
         for (sum, count) in all.iter_mut().zip(seen) {
             *sum += count;

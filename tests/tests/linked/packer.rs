@@ -255,10 +255,14 @@ fn records_that_are_none_of_a_unit() {
             bad.push(record);
         };
         let any = rng.u64().max(3);
-        [0, 1, 3, UNIT + (1 << 32), any].map(|word| with(0, word));
+        for word in [0, 1, 3, UNIT + (1 << 32), any] {
+            with(0, word);
+        }
         for k in 5..RECORD {
             let bound: u64 = most.get(k - 5).copied().unwrap_or(0);
-            [bound + 1, bound + (1 << 33), u64::MAX].map(|word| with(k, word));
+            for word in [bound + 1, bound + (1 << 33), u64::MAX] {
+                with(k, word);
+            }
         }
         for record in bad {
             let mut output = call.output.clone();

@@ -152,7 +152,7 @@ fn short_memory(pair: &mut Pair, rng: &mut Prng) {
 }
 
 /// A frame of a wrong length, out of turn, or with a bad control block: 10 to 14.
-fn bad_frame(pair: &mut Pair, rng: &mut Prng, block: &[u8]) {
+pub fn bad_frame(pair: &mut Pair, rng: &mut Prng, block: &[u8]) {
     let before = pair.theirs.state.get().to_vec();
     let mut block = block.to_vec();
     match rng.below(4) {
