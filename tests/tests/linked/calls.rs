@@ -36,12 +36,12 @@ pub const STREWN: Manner = Manner {
 #[derive(Clone)]
 pub struct Reading<'a> {
     pub pair: Pair,
-    commands: Vec<Command<'a>>,
-    at: usize,
+    pub commands: Vec<Command<'a>>,
+    pub at: usize,
     rng: u64,
     manner: Manner,
     block: &'a [u8],
-    settings: Settings,
+    pub settings: Settings,
 }
 
 impl<'a> Reading<'a> {

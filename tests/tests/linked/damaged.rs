@@ -1,13 +1,14 @@
 //! Words that no call left as a state: noise, and states of which some words are damaged. Every call ends,
 //! writes only what it is lent to write, and changes nothing where it is refused.
 
-use second::generate::catalogue::{self, FAMILIES};
+use second::generate::catalogue;
 use second::generate::prng::Prng;
 
 use super::calls::{Reading, PLAIN};
 use super::lent::{Lent, Station};
 use super::library::{self, LEN, RECORD, SETTINGS, STATE};
 use super::memories::Lengths;
+use super::records::{commands, Command, Settings};
 
 /// States of noise, and states of captures that are damaged.
 const NOISE: u64 = 400;
@@ -18,7 +19,18 @@ const CALLS: usize = 40;
 /// A word that is small, large, near a bound, or anything.
 fn word(rng: &mut Prng) -> u64 {
     let any = rng.u64();
-    let bound = rng.pick(&[16, 120, 751, 1_178, 5_049, 16_384, 21_433, 65_536, 1 << 20, 1 << 32]);
+    let bound = rng.pick(&[
+        16,
+        120,
+        751,
+        1_178,
+        5_049,
+        16_384,
+        21_433,
+        65_536,
+        1 << 20,
+        1 << 32,
+    ]);
     match rng.below(6) {
         0 => rng.pick(&[0, 1, 2, 3, 119, 120, 255, u64::MAX]),
         1 => any >> rng.below(64),
@@ -31,13 +43,13 @@ fn word(rng: &mut Prng) -> u64 {
 
 /// Damages some words of a state: single ones, or all of a part.
 fn damage(rng: &mut Prng, state: &mut [u64]) {
-    let part = rng.range(1, STATE);
+    let most = rng.pick(&[10, 100, STATE]);
+    let part = rng.range(1, most);
     let from = rng.below(STATE - part + 1);
-    match rng.below(4) {
+    match rng.below(6) {
         0 => state[from..from + part].fill_with(|| word(rng)),
-        1 => state[..40].iter_mut().for_each(|w| *w = w.wrapping_add(word(rng))),
-        2 => {
-            for _ in 0..rng.range(1, 4) {
+        1 | 2 => {
+            for _ in 0..rng.range(1, 3) {
                 state[rng.below(60)] = word(rng);
             }
         }
@@ -60,27 +72,71 @@ struct Ended {
 /// A length of a memory: all of it, or less.
 fn length(rng: &mut Prng, len: usize) -> usize {
     let any = rng.below(len + 1);
-    rng.pick(&[len, len, len, len, len, len.saturating_sub(1), any, 0])
+    if rng.chance(9, 10) {
+        return len;
+    }
+    rng.pick(&[len.saturating_sub(1), any, 0])
+}
+
+/// What calls are given that would be good ones.
+struct Given<'a> {
+    settings: Settings,
+    block: &'a [u8],
+    data: Vec<&'a [u8]>,
+}
+
+impl<'a> Given<'a> {
+    /// Of a capture's commands from `at` on: the data that comes next, and a control block.
+    fn of(list: &[Command<'a>], at: usize, settings: Settings, block: &'a [u8]) -> Self {
+        let mut given = Given {
+            settings,
+            block,
+            data: Vec::new(),
+        };
+        for command in list.iter().skip(at).take(12) {
+            match command {
+                Command::Slot(data) => given.data.push(data),
+                Command::Frame(block) => given.block = block,
+                _ => {}
+            }
+        }
+        given
+    }
+
+    /// Data of a slot: what is due, or noise of a length that some slot has.
+    fn slot(&self, rng: &mut Prng) -> Vec<u8> {
+        if rng.chance(2, 3) && !self.data.is_empty() {
+            return rng.pick(&self.data).to_vec();
+        }
+        let len = rng.pick(&[0, 1_870, 1_870, 4_301, 5_049, 5_050]);
+        rng.bytes(len)
+    }
 }
 
 /// One call over `station`, with parts of its memories; its number, its answer, and the records it gave.
-fn call(rng: &mut Prng, station: &mut Station, block: &[u8], array: &mut [u64]) -> (usize, u8, u64) {
+fn call(
+    rng: &mut Prng,
+    station: &mut Station,
+    given: &Given,
+    array: &mut [u64],
+) -> (usize, u8, u64) {
     let packet = length(rng, station.packet.get().len());
     let collecting = length(rng, station.collecting.get().len());
     let packet = &mut station.packet.lend()[..packet];
     let collecting = &mut station.collecting.lend()[..collecting];
     let state = station.state.lend();
-    let len = rng.pick(&[0, 1_870, 2_805, 4_301, 5_049, 5_050]);
-    let which = rng.pick(&[0, 1, 2, 3, 3, 4, 4, 5, 5, 5, 6, 6]);
+    let which = rng.pick(&[0, 1, 1, 2, 3, 3, 3, 4, 4, 5, 5, 5, 6, 6]);
     let answer = match which {
         0 => {
-            let mut settings = [0; SETTINGS];
-            settings[rng.below(SETTINGS)] = word(rng);
+            let mut settings = given.settings;
+            if rng.chance(7, 8) {
+                settings[rng.below(SETTINGS)] = word(rng);
+            }
             library::start(&settings, state)
         }
-        1 => library::frame(state, block),
+        1 => library::frame(state, given.block),
         2 => library::lost_frame(state),
-        3 => library::slot(state, packet, collecting, &rng.bytes(len)),
+        3 => library::slot(state, packet, collecting, &given.slot(rng)),
         4 => library::lost_slot(state, packet, collecting),
         5 => library::next(state, packet, collecting, array),
         _ => {
@@ -107,26 +163,47 @@ fn known(which: usize, answer: u8) -> bool {
 
 /// Calls in any order. What a call may write is the state, and by its kind packet memory, collecting memory
 /// and the array; a call on a copy does the same.
-fn calls(rng: &mut Prng, station: &mut Station, block: &[u8], ended: &mut Ended) {
+fn calls(rng: &mut Prng, station: &mut Station, given: &Given, ended: &mut Ended) {
     for _ in 0..CALLS {
+        if rng.chance(1, 16) {
+            damage(rng, station.state.lend());
+        }
         let room = rng.pick(&[0, RECORD - 1, RECORD, RECORD + 1, 200]);
         let filling = Lent::<u64>::noise(rng, room);
         let (mut array, mut other) = (filling.clone(), filling.clone());
         let before = station.clone();
         let mut copy = station.clone();
         let seed = rng.u64();
-        let made = call(&mut Prng::new(seed), station, block, array.lend());
-        let again = call(&mut Prng::new(seed), &mut copy, block, other.lend());
+        let made = call(&mut Prng::new(seed), station, given, array.lend());
+        let again = call(&mut Prng::new(seed), &mut copy, given, other.lend());
         let (which, answer, records) = made;
         assert!(known(which, answer), "call {which}: {answer}");
-        assert!(made == again && *station == copy && array == other, "call {which} again");
-        assert!(station.is_guarded() && array.is_guarded(), "call {which}: guards");
+        assert!(
+            made == again && *station == copy && array == other,
+            "call {which} again"
+        );
+        assert!(
+            station.is_guarded() && array.is_guarded(),
+            "call {which}: guards"
+        );
         let behind = |station: &Station| station.state.get()[STATE..].to_vec();
-        assert!(behind(station) == behind(&before), "call {which}: words behind");
-        assert!(which == 3 || station.packet == before.packet, "call {which}");
-        assert!(which >= 5 || station.collecting == before.collecting, "call {which}");
+        assert!(
+            behind(station) == behind(&before),
+            "call {which}: words behind"
+        );
+        assert!(
+            which == 3 || station.packet == before.packet,
+            "call {which}"
+        );
+        assert!(
+            which >= 5 || station.collecting == before.collecting,
+            "call {which}"
+        );
         let written = records as usize * RECORD;
-        assert!(array.get()[written..] == filling.get()[written..], "call {which}: array");
+        assert!(
+            array.get()[written..] == filling.get()[written..],
+            "call {which}: array"
+        );
         if answer != 0 {
             assert!(*station == before, "call {which} refused with {answer}");
             ended.refused += 1;
@@ -153,28 +230,26 @@ fn show_each(rng: &mut Prng, station: &mut Station, records: &[u64]) {
     }
 }
 
-/// A control block that a capture begins with.
-fn block_of(capture: &[u8]) -> &[u8] {
-    &capture[43..43 + 1_178]
+/// A block with a TLV stream of each id below 16, all slots live and of 1,870 bytes, by turns theirs.
+fn block_of_sixteen() -> Vec<u8> {
+    let mut block = vec![0; 1_178];
+    block[1..25].copy_from_slice(&[0xFF, 0, 0].repeat(8));
+    block[1..3].copy_from_slice(&[0x51, 120]);
+    block[25..41].fill(2);
+    for k in 0..16 {
+        block[694 + 2 * k] = k as u8;
+    }
+    for i in 0..60 {
+        block[633 + i] = (i as u8 % 8) * 0x22 + 1;
+    }
+    block
 }
 
-#[test]
-fn noise() {
-    let mut ended = Ended::default();
-    let capture = catalogue::capture(0);
-    for number in 0..NOISE {
-        let mut rng = Prng::new(number ^ 0x9015E);
-        let mut station = Station::noise(&mut rng, more(number), 5_000);
-        if number % 2 == 0 {
-            let small = 1 << (number / 2 % 20);
-            let state = station.state.lend();
-            state.iter_mut().for_each(|word| *word %= small);
-        }
-        calls(&mut rng, &mut station, block_of(&capture), &mut ended);
-    }
-    println!("{ended:?}");
-    assert!(ended.accepted[2..].iter().all(|&count| count > 20));
-    assert!(ended.refused > 1_000 && ended.records > 100);
+/// Settings that are good ones.
+fn good() -> Settings {
+    let mut settings = [0; SETTINGS];
+    settings[..6].copy_from_slice(&[3, 5, 2, 100, 7, 9]);
+    settings
 }
 
 /// Words behind a state's: none, or some.
@@ -183,24 +258,49 @@ fn more(number: u64) -> usize {
 }
 
 #[test]
+fn noise() {
+    let mut ended = Ended::default();
+    let block = block_of_sixteen();
+    let capture = catalogue::capture(0);
+    let given = Given {
+        block: &block,
+        ..Given::of(&commands(&capture), 0, good(), &block)
+    };
+    for number in 0..NOISE {
+        let mut rng = Prng::new(number ^ 0x9015E);
+        let mut station = Station::noise(&mut rng, more(number), 5_000);
+        if number % 2 == 0 {
+            let small = 1 << (number / 2 % 20);
+            let state = &mut station.state.lend()[..STATE];
+            state.iter_mut().for_each(|word| *word %= small);
+        }
+        calls(&mut rng, &mut station, &given, &mut ended);
+    }
+    println!("{ended:?}");
+    assert!(ended.accepted.iter().all(|&count| count > 20));
+    assert!(ended.refused > 1_000 && ended.records > 100);
+}
+
+#[test]
 fn damaged_states() {
     let mut ended = Ended::default();
+    let block = block_of_sixteen();
     for number in 0..DAMAGED {
-        let capture = catalogue::capture(number % (20 * FAMILIES.len() as u64));
+        let capture = catalogue::capture(number);
         let mut rng = Prng::new(number ^ 0xDA7A);
         let mut reading = Reading::new(number, &capture, Lengths::Exact, PLAIN);
         for _ in 0..rng.pick(&[1, 5, 60, 200]) {
             reading.step();
         }
-        let mut station = reading.pair.theirs;
         if reading.pair.ours.is_none() {
             continue;
         }
+        let given = Given::of(&reading.commands, reading.at, reading.settings, &block);
+        let mut station = reading.pair.theirs;
         damage(&mut rng, station.state.lend());
-        let good = catalogue::capture(0);
-        calls(&mut rng, &mut station, block_of(&good), &mut ended);
+        calls(&mut rng, &mut station, &given, &mut ended);
     }
     println!("{ended:?}");
-    assert!(ended.accepted[2..].iter().all(|&count| count > 100));
+    assert!(ended.accepted.iter().all(|&count| count > 100));
     assert!(ended.refused > 10_000 && ended.records > 5_000);
 }

@@ -67,7 +67,10 @@ fn once(station: &mut Station, rng: &mut Prng, room: usize, stops: &mut Stops) -
     let answer = station.events(array.lend());
     assert_eq!(answer, (0, records.len() as u64), "{room} records");
     assert!(array == due, "records, and the words behind them");
-    assert!(station.is_guarded() && *station == copy, "state and memories");
+    assert!(
+        station.is_guarded() && *station == copy,
+        "state and memories"
+    );
     stops.records += records.len() as u64;
     stops.several += u64::from(records.len() > 1);
     records.len()

@@ -164,12 +164,7 @@ pub fn lost_slot(state: &mut [u64], packet: &mut [u8], collecting: &mut [u8]) ->
 }
 
 /// The next event, as a record in `event`.
-pub fn next(
-    state: &mut [u64],
-    packet: &mut [u8],
-    collecting: &mut [u8],
-    event: &mut [u64],
-) -> u8 {
+pub fn next(state: &mut [u64], packet: &mut [u8], collecting: &mut [u8], event: &mut [u64]) -> u8 {
     // SAFETY: as above.
     unsafe {
         ixohuemil_next(
@@ -260,7 +255,14 @@ pub const TOP: u16 = 0xBEEF;
 pub const LAST: u16 = 0xCAFE;
 
 /// Packs the unit of a record; the refusal, or 0, and what the length, `LEN` before the call, then is.
-pub fn pack(unit: &[u64], cid: u16, sn: u8, m: usize, bytes: &[u8], output: &mut [u8]) -> (u8, u64) {
+pub fn pack(
+    unit: &[u64],
+    cid: u16,
+    sn: u8,
+    m: usize,
+    bytes: &[u8],
+    output: &mut [u8],
+) -> (u8, u64) {
     let mut len = LEN;
     // SAFETY: as above.
     let refusal = unsafe {

@@ -4,6 +4,11 @@
 #[cfg(linked)]
 mod calls;
 #[cfg(linked)]
+mod cases;
+#[cfg(linked)]
+#[path = "../common/mod.rs"]
+mod common;
+#[cfg(linked)]
 mod copies;
 #[cfg(linked)]
 mod cutter;

@@ -266,7 +266,8 @@ fn records_that_are_none_of_a_unit() {
         }
         for record in bad {
             let mut output = call.output.clone();
-            let answer = library::pack(&record, call.cid, call.sn, call.m, &call.bytes, &mut output);
+            let answer =
+                library::pack(&record, call.cid, call.sn, call.m, &call.bytes, &mut output);
             assert_eq!(answer, (92, library::LEN), "{record:?}");
             assert!(output == call.output, "output of a refused call");
             refused += 1;

@@ -4,7 +4,7 @@ use second::calls::{show, Event, Receiver};
 use second::generate::prng::Prng;
 
 use super::lent::{Lent, Station};
-use super::library::{self, RECORD, STATE, UNIT};
+use super::library::{self, RECORD, STATE};
 use super::memories::Memories;
 use super::records::{record, start, Command, Record, Settings};
 
@@ -57,7 +57,11 @@ impl Pair {
         let (station, place) = (&self.theirs, || self.place(what));
         let state = station.state.get();
         assert!(station.is_guarded(), "{}: a guard", place());
-        assert!(state[STATE..] == before[STATE..], "{}: words behind", place());
+        assert!(
+            state[STATE..] == before[STATE..],
+            "{}: words behind",
+            place()
+        );
         assert!(theirs == 0 || state == before, "{}: state", place());
         let (packet, collecting) = (station.packet.get(), station.collecting.get());
         assert!(packet == self.packet, "{}: packet memory", place());
@@ -113,12 +117,20 @@ impl Pair {
         self.compare("next", event.map(|_| ()), theirs, &before);
         assert!(memory.is_guarded(), "{}", self.place("guard of next"));
         let Ok(event) = event else {
-            assert!(memory == filling, "{}", self.place("event of a refused next"));
+            assert!(
+                memory == filling,
+                "{}",
+                self.place("event of a refused next")
+            );
             return Err(theirs);
         };
         let (words, behind) = memory.get().split_at(RECORD);
         assert_eq!(words, record(&event), "{}", self.place("record"));
-        assert!(*behind == filling.get()[RECORD..], "{}", self.place("behind it"));
+        assert!(
+            *behind == filling.get()[RECORD..],
+            "{}",
+            self.place("behind it")
+        );
         self.owed = event != Event::Nothing;
         let words: Record = words.try_into().expect("24 words");
         if let Event::Unit(unit) = event {
@@ -153,21 +165,12 @@ impl Pair {
             let mut output = filling.clone();
             let answer = self.theirs.show(&record[..words], output.lend());
             assert_eq!(answer, (due, library::LEN), "{}", self.place("show"));
-            assert!(output == filling, "{}", self.place("output of a refused show"));
+            assert!(
+                output == filling,
+                "{}",
+                self.place("output of a refused show")
+            );
             self.compare("refused show", Err(due), answer.0, &before);
-        }
-    }
-
-    /// Next until nothing waits, or a refusal.
-    pub fn drain(&mut self, rng: &mut Prng) {
-        while self.owed {
-            match self.next(rng) {
-                Ok(record) => assert!(record[0] <= UNIT),
-                Err(number) => {
-                    assert_eq!(number, 22, "{}", self.place("next"));
-                    return;
-                }
-            }
         }
     }
 }

@@ -12,7 +12,7 @@ fn near(rng: &mut Prng, len: usize) -> u64 {
     let (len, inside) = (len as u64, rng.below(len + 1) as u64);
     let any = rng.u64();
     let far = [u64::MAX, u64::MAX - len, 1 << 32, 1 << 63, any];
-    match rng.below(4) {
+    match rng.below(8) {
         0 => rng.pick(&[0, 1, len - 1, len, len + 1]),
         1 => rng.pick(&far),
         _ => inside,
@@ -24,7 +24,10 @@ fn place(rng: &mut Prng, len: usize) -> (u64, u64) {
     let (start, other) = (near(rng, len), near(rng, len));
     let rest = (len as u64).wrapping_sub(start);
     let wraps = 0u64.wrapping_sub(start);
-    (start, rng.pick(&[other, rest, rest.wrapping_add(1), wraps]))
+    (
+        start,
+        rng.pick(&[other, other, other, rest, rest.wrapping_add(1), wraps]),
+    )
 }
 
 #[test]
@@ -39,7 +42,9 @@ fn any_place() {
         let (start, len) = place(&mut rng, bytes.len());
         let mut record: Vec<u64> = (0..RECORD).map(|_| rng.u64()).collect();
         record[2..5].copy_from_slice(&[memory as u64, start, len]);
-        let end = start.checked_add(len).map_or(usize::MAX, |end| end as usize);
+        let end = start
+            .checked_add(len)
+            .map_or(usize::MAX, |end| end as usize);
         let part = bytes.get(start as usize..end).unwrap_or(&[]);
         let room = part.len() + 2;
         let room = rng.pick(&[room - 2, room - 2, room, room.saturating_sub(3), 0]);
