@@ -3,21 +3,10 @@
 use second::capture::{Capture, COLLECTING};
 use second::slots::PACKET_MEMORY;
 
+use crate::linkage;
+
 /// Bytes of the longest line: text memory has as many more than the text.
 pub const LONGEST_LINE: usize = 152;
-
-extern "C" {
-    fn ixohuemil_text(
-        capture: *const u8,
-        capture_len: usize,
-        packet: *mut u8,
-        packet_len: usize,
-        collecting: *mut u8,
-        collecting_len: usize,
-        text: *mut u8,
-        text_len: usize,
-    ) -> u64;
-}
 
 /// Memories lent to a decoder, the same to both; made once, outside what is measured.
 pub struct Memories {
@@ -45,19 +34,6 @@ impl Memories {
 
     /// The proved decoder writes the capture's text to `text`; how many bytes it has.
     pub fn proved(&mut self, capture: &[u8], text: &mut [u8]) -> usize {
-        // SAFETY: each pointer comes with its length, nothing is kept, and no two of them overlap.
-        let len = unsafe {
-            ixohuemil_text(
-                capture.as_ptr(),
-                capture.len(),
-                self.packet.as_mut_ptr(),
-                self.packet.len(),
-                self.collecting.as_mut_ptr(),
-                self.collecting.len(),
-                text.as_mut_ptr(),
-                text.len(),
-            )
-        };
-        len as usize
+        linkage::text(capture, &mut self.packet, &mut self.collecting, text)
     }
 }

@@ -1,12 +1,14 @@
 //! Measures the proved decoder beside the second one and beside a plain copy: as whole processes and in
-//! memory, on three captures; and what a command without data costs.
+//! memory, on three captures, as lines and call by call; and what a command without data costs.
 //!
 //! `bench [FRAMES [ROUNDS [PROGRAM]]]`. PROGRAM is the capture program, else TLV_CAPTURE names it.
 
+mod calls;
 mod captures;
 mod clock;
 mod commands;
 mod decoders;
+mod linkage;
 mod memory;
 mod processes;
 mod table;
@@ -31,6 +33,9 @@ a process that reads the file in blocks of the same size and copies each to anot
 const MEMORY: &str = "
 In memory: gigabytes of capture per second of processor time. A decoder reads the capture in memory and
 writes its lines to memory. Plain copy: the whole capture to memory of the same length.";
+const CALLS: &str = "
+Calls: gigabytes of capture per second of processor time. A program makes the calls of a capture's
+commands in memory, takes the events of each, and adds up the bytes of every unit in place.";
 const COMMANDS: &str = "
 Commands without data: nanoseconds of processor time for each, in memory. F is taken away from the frames
 that L and S come in.";
@@ -82,6 +87,7 @@ struct Row {
     bytes: usize,
     processes: Times,
     memory: Times,
+    calls: Times,
 }
 
 fn measure(settings: &Settings) -> Result<(), Box<dyn Error>> {
@@ -95,12 +101,14 @@ fn measure(settings: &Settings) -> Result<(), Box<dyn Error>> {
         let capture = &measured.capture[..];
         let (processes, text) = programs.measure(capture, rounds)?;
         println!("{}: {}", measured.name, measured.what);
-        println!("    {}", summary(capture, &text)?);
+        let (calls, sum) = calls::measure(capture, rounds)?;
+        println!("    {}", summary(capture, &text, &sum)?);
         rows.push(Row {
             name: measured.name,
             bytes: capture.len(),
             processes,
             memory: memory::measure(capture, &text, rounds)?,
+            calls,
         });
     }
     let (empty, _) = programs.measure(&[], rounds)?;
@@ -125,12 +133,18 @@ fn measure(settings: &Settings) -> Result<(), Box<dyn Error>> {
         table::speeds(row.name, row.bytes, &row.memory);
     }
 
+    println!("{CALLS}\n");
+    table::heading("GB/s");
+    for row in &rows {
+        table::speeds(row.name, row.bytes, &row.calls);
+    }
+
     println!("{COMMANDS}\n");
     commands::measure(rounds)
 }
 
 /// What a capture comes to, from its text; it must not be refused.
-fn summary(capture: &[u8], text: &[u8]) -> Result<String, Box<dyn Error>> {
+fn summary(capture: &[u8], text: &[u8], sum: &calls::Sum) -> Result<String, Box<dyn Error>> {
     let last = std::str::from_utf8(text)?.lines().rev().take(2);
     let last: Vec<&str> = last.collect();
     if last.iter().any(|line| line.starts_with("refused")) {
@@ -140,6 +154,9 @@ fn summary(capture: &[u8], text: &[u8]) -> Result<String, Box<dyn Error>> {
     let ["end", frames, units, notes] = words[..] else {
         return Err(format!("no end line: {}", last[0]).into());
     };
+    if (units, notes) != (&*sum.units.to_string(), &*sum.notes.to_string()) {
+        return Err("the calls give other units or notes than the lines".into());
+    }
     let (bytes, lines) = (capture.len() as f64 / 1e6, text.len() as f64 / 1e6);
     Ok(format!(
         "{bytes:.1} MB, {frames} frames, {units} units, {notes} notes, {lines:.2} MB of lines"

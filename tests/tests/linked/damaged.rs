@@ -5,6 +5,7 @@ use second::generate::catalogue;
 use second::generate::prng::Prng;
 
 use super::calls::{Reading, PLAIN};
+use super::events::{once, Stops};
 use super::lent::{Lent, Station};
 use super::library::{self, LEN, RECORD, SETTINGS, STATE};
 use super::memories::Lengths;
@@ -67,6 +68,8 @@ struct Ended {
     accepted: [u64; 7],
     refused: u64,
     records: u64,
+    /// Calls of events that were compared with next.
+    beside_next: Stops,
 }
 
 /// A length of a memory: all of it, or less.
@@ -212,6 +215,10 @@ fn calls(rng: &mut Prng, station: &mut Station, given: &Given, ended: &mut Ended
         }
         ended.records += records;
         show_each(rng, station, &array.get()[..written]);
+        if station.clone().next(&mut [0; RECORD]) == 0 {
+            let room = rng.pick(&[1, 2, 3, 7]);
+            once(station, rng, room, &mut ended.beside_next);
+        }
     }
 }
 

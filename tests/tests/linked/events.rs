@@ -15,12 +15,12 @@ const ROOMS: [usize; 5] = [1, 2, 3, 7, 64];
 
 /// Why a call of events stopped.
 #[derive(Default, Debug)]
-struct Stops {
+pub struct Stops {
     /// Nothing waited, the array was full, a joined unit was given before it was.
     nothing: u64,
     full: u64,
     joined: u64,
-    records: u64,
+    pub records: u64,
     /// Calls that gave more than one record.
     several: u64,
 }
@@ -57,7 +57,7 @@ fn by_next(station: &mut Station, room: usize, stops: &mut Stops) -> Vec<Record>
 
 /// One call of events in an array of `room` records and some words more, beside next on a copy; how many
 /// records it gave.
-fn once(station: &mut Station, rng: &mut Prng, room: usize, stops: &mut Stops) -> usize {
+pub fn once(station: &mut Station, rng: &mut Prng, room: usize, stops: &mut Stops) -> usize {
     let mut copy = station.clone();
     let words = room * RECORD + rng.pick(&[0, 0, 1, 12, RECORD - 1]);
     let mut due = Lent::<u64>::noise(rng, words);
