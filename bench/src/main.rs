@@ -113,11 +113,7 @@ fn measure(settings: &Settings) -> Result<(), Box<dyn Error>> {
     }
     let (empty, _) = programs.measure(&[], rounds)?;
 
-    println!("{PROCESSES}\n");
-    table::heading("GB/s");
-    for row in &rows {
-        table::speeds(row.name, row.bytes, &row.processes);
-    }
+    print(PROCESSES, &rows, |row| &row.processes);
     let milliseconds = |best: clock::Best| best.seconds() * 1e3;
     println!(
         "{:<24} {:>12.2} {:>12.2} {:>12.2}",
@@ -126,21 +122,19 @@ fn measure(settings: &Settings) -> Result<(), Box<dyn Error>> {
         milliseconds(empty.second),
         milliseconds(empty.proved)
     );
-
-    println!("{MEMORY}\n");
-    table::heading("GB/s");
-    for row in &rows {
-        table::speeds(row.name, row.bytes, &row.memory);
-    }
-
-    println!("{CALLS}\n");
-    table::heading("GB/s");
-    for row in &rows {
-        table::speeds(row.name, row.bytes, &row.calls);
-    }
-
+    print(MEMORY, &rows, |row| &row.memory);
+    print(CALLS, &rows, |row| &row.calls);
     println!("{COMMANDS}\n");
     commands::measure(rounds)
+}
+
+/// A table of speeds, and what they mean.
+fn print(what: &str, rows: &[Row], times: impl Fn(&Row) -> &Times) {
+    println!("{what}\n");
+    table::heading("GB/s");
+    for row in rows {
+        table::speeds(row.name, row.bytes, times(row));
+    }
 }
 
 /// What a capture comes to, from its text; it must not be refused.

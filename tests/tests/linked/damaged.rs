@@ -7,12 +7,12 @@ use second::generate::prng::Prng;
 use super::calls::{Reading, PLAIN};
 use super::events::{once, Stops};
 use super::lent::{Lent, Station};
-use super::library::{self, LEN, RECORD, SETTINGS, STATE};
+use super::library::{self, LEN, NOTHING, RECORD, SETTINGS, STATE};
 use super::memories::Lengths;
 use super::records::{commands, Command, Settings};
 
 /// States of noise, and states of captures that are damaged.
-const NOISE: u64 = 400;
+const NOISE: u64 = 800;
 const DAMAGED: u64 = 1_500;
 /// Calls with each.
 const CALLS: usize = 40;
@@ -128,7 +128,7 @@ fn call(
     let packet = &mut station.packet.lend()[..packet];
     let collecting = &mut station.collecting.lend()[..collecting];
     let state = station.state.lend();
-    let which = rng.pick(&[0, 1, 1, 2, 3, 3, 3, 4, 4, 5, 5, 5, 6, 6]);
+    let which = rng.pick(&[0, 1, 1, 2, 3, 3, 3, 4, 5, 5, 5, 5, 6, 6, 6]);
     let answer = match which {
         0 => {
             let mut settings = given.settings;
@@ -164,66 +164,68 @@ fn known(which: usize, answer: u8) -> bool {
     answer == 0 || known.contains(&answer)
 }
 
-/// Calls in any order. What a call may write is the state, and by its kind packet memory, collecting memory
-/// and the array; a call on a copy does the same.
+/// What a call may write: the state's 751 words, and by its kind packet memory, collecting memory and the
+/// array up to the records that it gave; nothing where it is refused.
+fn is_kept(made: (usize, u8, u64), before: &Before, station: &Station, array: &Lent<u64>) {
+    let (which, answer, records) = made;
+    let (old, filling) = (&before.station, &before.array);
+    assert!(known(which, answer), "call {which}: {answer}");
+    assert!(station.is_guarded() && array.is_guarded(), "call {which}");
+    let behind = &station.state.get()[STATE..];
+    assert!(*behind == old.state.get()[STATE..], "call {which}");
+    assert!(which == 3 || station.packet == old.packet, "call {which}");
+    assert!(
+        which >= 5 || station.collecting == old.collecting,
+        "call {which}"
+    );
+    let written = records as usize * RECORD;
+    let behind = &array.get()[written..];
+    assert!(*behind == filling.get()[written..], "call {which}: array");
+    let same = *station == *old && records == 0;
+    assert!(answer == 0 || same, "call {which} refused with {answer}");
+}
+
+/// What stood there before a call.
+struct Before {
+    station: Station,
+    array: Lent<u64>,
+}
+
+/// Calls in any order, some over words that are damaged again. A call on a copy does the same.
 fn calls(rng: &mut Prng, station: &mut Station, given: &Given, ended: &mut Ended) {
     for _ in 0..CALLS {
         if rng.chance(1, 16) {
             damage(rng, station.state.lend());
         }
         let room = rng.pick(&[0, RECORD - 1, RECORD, RECORD + 1, 200]);
-        let filling = Lent::<u64>::noise(rng, room);
-        let (mut array, mut other) = (filling.clone(), filling.clone());
-        let before = station.clone();
-        let mut copy = station.clone();
-        let seed = rng.u64();
+        let before = Before {
+            station: station.clone(),
+            array: Lent::noise(rng, room),
+        };
+        let (mut array, mut other) = (before.array.clone(), before.array.clone());
+        let (mut copy, seed) = (station.clone(), rng.u64());
         let made = call(&mut Prng::new(seed), station, given, array.lend());
         let again = call(&mut Prng::new(seed), &mut copy, given, other.lend());
+        is_kept(made, &before, station, &array);
         let (which, answer, records) = made;
-        assert!(known(which, answer), "call {which}: {answer}");
-        assert!(
-            made == again && *station == copy && array == other,
-            "call {which} again"
-        );
-        assert!(
-            station.is_guarded() && array.is_guarded(),
-            "call {which}: guards"
-        );
-        let behind = |station: &Station| station.state.get()[STATE..].to_vec();
-        assert!(
-            behind(station) == behind(&before),
-            "call {which}: words behind"
-        );
-        assert!(
-            which == 3 || station.packet == before.packet,
-            "call {which}"
-        );
-        assert!(
-            which >= 5 || station.collecting == before.collecting,
-            "call {which}"
-        );
-        let written = records as usize * RECORD;
-        assert!(
-            array.get()[written..] == filling.get()[written..],
-            "call {which}: array"
-        );
-        if answer != 0 {
-            assert!(*station == before, "call {which} refused with {answer}");
-            ended.refused += 1;
-        } else {
-            ended.accepted[which] += 1;
+        let same = made == again && *station == copy && array == other;
+        assert!(same, "call {which} on a copy");
+        match answer {
+            0 => ended.accepted[which] += 1,
+            _ => ended.refused += 1,
         }
-        ended.records += records;
-        show_each(rng, station, &array.get()[..written]);
-        if station.clone().next(&mut [0; RECORD]) == 0 {
+        let written = &array.get()[..records as usize * RECORD];
+        ended.records += show_each(rng, station, written);
+        if rng.chance(1, 4) && station.clone().next(&mut [0; RECORD]) == 0 {
             let room = rng.pick(&[1, 2, 3, 7]);
             once(station, rng, room, &mut ended.beside_next);
         }
     }
 }
 
-/// Show of records that a damaged state gave: the part of its memory, or nothing.
-fn show_each(rng: &mut Prng, station: &mut Station, records: &[u64]) {
+/// Show of records that a damaged state gave: the part of its memory, or nothing. How many are events.
+fn show_each(rng: &mut Prng, station: &mut Station, records: &[u64]) -> u64 {
+    let mut events = 0;
     for record in records.chunks_exact(RECORD) {
         assert!(record[0] <= 2 && record[2] <= 1, "{record:?}");
         let memories = [station.packet.get(), station.collecting.get()];
@@ -234,7 +236,9 @@ fn show_each(rng: &mut Prng, station: &mut Station, records: &[u64]) {
         let answer = station.show(record, output.lend());
         assert_eq!(answer, (0, part.len() as u64), "{record:?}");
         assert!(output.get() == part && output.is_guarded(), "{record:?}");
+        events += u64::from(record[0] != NOTHING);
     }
+    events
 }
 
 /// A block with a TLV stream of each id below 16, all slots live and of 1,870 bytes, by turns theirs.
@@ -285,7 +289,7 @@ fn noise() {
     }
     println!("{ended:?}");
     assert!(ended.accepted.iter().all(|&count| count > 20));
-    assert!(ended.refused > 1_000 && ended.records > 100);
+    assert!(ended.refused > 1_000 && ended.records > 50);
 }
 
 #[test]
@@ -299,6 +303,7 @@ fn damaged_states() {
         for _ in 0..rng.pick(&[1, 5, 60, 200]) {
             reading.step();
         }
+        while number % 4 > 0 && !reading.pair.owed && reading.step() {}
         if reading.pair.ours.is_none() {
             continue;
         }
@@ -309,5 +314,5 @@ fn damaged_states() {
     }
     println!("{ended:?}");
     assert!(ended.accepted.iter().all(|&count| count > 100));
-    assert!(ended.refused > 10_000 && ended.records > 5_000);
+    assert!(ended.refused > 10_000 && ended.records > 1_000);
 }
