@@ -6,7 +6,7 @@ use second::generate::prng::Prng;
 
 use super::memories::{filled, Lengths};
 use super::pair::{Pair, Seen};
-use super::records::{commands, Command, Settings};
+use super::records::{commands, settings, Command, Settings};
 use super::strays::{bad_frame, stray};
 
 /// Captures of each family.
@@ -47,7 +47,7 @@ pub struct Reading<'a> {
 impl<'a> Reading<'a> {
     pub fn new(number: u64, capture: &'a [u8], lengths: Lengths, manner: Manner) -> Self {
         let mut rng = Prng::new(number ^ 0x5EED);
-        let more = if number % 3 == 0 { 9 } else { 0 };
+        let more = [9, 0, 0][(number % 3) as usize];
         let memories = filled(number, capture, lengths);
         Reading {
             pair: Pair::new(format!("capture {number}"), &mut rng, more, memories),
@@ -83,7 +83,7 @@ impl<'a> Reading<'a> {
         let owed = self.pair.owed;
         let answer = self.pair.call(&command);
         match command {
-            Command::Start(settings) if answer == 0 => self.settings = settings,
+            Command::Start(operands) if answer == 0 => self.settings = settings(operands),
             Command::Frame(block) if answer == 0 => self.block = block,
             _ => {}
         }

@@ -2,10 +2,12 @@
 //! written out.
 
 use second::control_block::BLOCK_LEN;
+use second::generate::commands::start;
 use second::generate::prng::Prng;
+use second::generate::sender::Config;
 
 use super::common::{block, cut_padded, flow, mmtp, mpu, signalling, tlv};
-use super::library::{NOTHING, RECORD, SETTINGS};
+use super::library::{NOTHING, RECORD};
 use super::pair::Pair;
 use super::records::{Command, Record};
 
@@ -22,9 +24,13 @@ fn pair() -> Pair {
     let mut rng = Prng::new(7);
     let memories = (rng.bytes(21_433), rng.bytes(200));
     let mut pair = Pair::new("by hand".into(), &mut rng, 2, memories);
-    let mut settings = [0; SETTINGS];
-    settings[..6].copy_from_slice(&[1, 5, 2, 100, 7, 9]);
-    assert_eq!(pair.call(&Command::Start(settings)), 0);
+    let start = start(&Config {
+        stream_id: 1,
+        cid: 5,
+        ids: vec![7, 9],
+        joined_max: 100,
+    });
+    assert_eq!(pair.call(&Command::Start(&start[1..])), 0);
     pair
 }
 

@@ -6,7 +6,7 @@ use second::generate::prng::Prng;
 use super::lent::{Lent, Station};
 use super::library::{self, NOTE, NOTHING, RECORD, UNIT};
 use super::memories::{filled, Lengths};
-use super::records::{commands, Command, Record};
+use super::records::{commands, settings, Command, Record};
 
 /// Captures of each family.
 const EACH: u64 = 25;
@@ -85,8 +85,8 @@ fn read(number: u64, room: Option<usize>, stops: &mut Stops) {
     let mut started = false;
     for command in commands(&capture) {
         let answer = match command {
-            Command::Start(settings) => {
-                let answer = library::start(&settings, station.state.lend());
+            Command::Start(operands) => {
+                let answer = library::start(&settings(operands), station.state.lend());
                 started |= answer == 0;
                 answer
             }

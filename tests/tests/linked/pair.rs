@@ -6,7 +6,7 @@ use second::generate::prng::Prng;
 use super::lent::{Lent, Station};
 use super::library::{self, RECORD, STATE};
 use super::memories::Memories;
-use super::records::{record, start, Command, Record, Settings};
+use super::records::{record, settings, start, Command, Record, Settings};
 
 /// How often each answer came, by number; 0 counts the accepted calls.
 pub type Seen = [u64; 256];
@@ -71,8 +71,8 @@ impl Pair {
     /// The call of a command; its refusal, or 0. Before an accepted start only start is called.
     pub fn call(&mut self, command: &Command) -> u8 {
         let before = self.theirs.state.get().to_vec();
-        if let Command::Start(settings) = command {
-            return self.start(settings, &before);
+        if let Command::Start(operands) = command {
+            return self.start(&settings(operands), &before);
         }
         let Some(ours) = &mut self.ours else {
             return 0;

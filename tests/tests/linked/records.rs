@@ -14,7 +14,8 @@ pub type Settings = [u64; SETTINGS];
 /// A call, with what it is given beside state and memories.
 #[derive(Clone, Copy, Debug)]
 pub enum Command<'a> {
-    Start(Settings),
+    /// C's operands.
+    Start(&'a [u8]),
     Frame(&'a [u8]),
     LostFrame,
     Slot(&'a [u8]),
@@ -22,7 +23,7 @@ pub enum Command<'a> {
 }
 
 /// The settings that C's operands say.
-fn settings(operands: &[u8]) -> Settings {
+pub fn settings(operands: &[u8]) -> Settings {
     let mut words = [0; SETTINGS];
     words[0] = be16(operands, 0).into();
     words[1] = be16(operands, 2).into();
@@ -55,7 +56,7 @@ pub fn commands(capture: &[u8]) -> Vec<Command<'_>> {
         match letter {
             b'C' if behind.len() >= START_LEN - 1 => {
                 rest = &behind[START_LEN - 1..];
-                out.push(Command::Start(settings(behind)));
+                out.push(Command::Start(&behind[..START_LEN - 1]));
             }
             b'F' => {
                 let (block, after) = part(BLOCK_LEN);

@@ -93,8 +93,8 @@ fn settings_at_their_bounds() {
     }
     let mut most = good();
     most[..4].copy_from_slice(&[65_535, 4_095, 16, 1_048_576]);
-    for k in 4..20 {
-        most[k] = 65_535 - k as u64;
+    for (k, id) in most[4..20].iter_mut().enumerate() {
+        *id = 65_535 - k as u64;
     }
     let more = [&most[..], &[u64::MAX; 3]].concat(); // words behind the 32 do not count
     assert_eq!(library::start(&most, station.state.lend()), 0);
