@@ -145,7 +145,8 @@ fn compare_family(family: u64) -> Compared {
         collecting,
     } = compared;
     let name = FAMILIES[family as usize];
-    println!("{EACH} captures, {name}: {calls} calls, {refused} refused, {units} units; {packet} and {collecting} changed a memory");
+    println!("{EACH} captures, {name}: {calls} calls, {refused} refused, {units} units");
+    println!("    {packet} and {collecting} changed a memory");
     compared
 }
 
