@@ -1,8 +1,10 @@
 // Next, with its event as a record, and many events for one call.
 ghost use mathlib.Core.Path.{_≡_};
+ghost use mathlib.Core.Bool.{false};
 ghost use Prim.Native.Nat.{_≤_};
 ghost use lib.ListN.{length};
 ghost use Rattle.receiver.specs.Words.{stateWords, stateIn};
+ghost use Rattle.receiver.specs.Slot.{shortBy};
 ghost use Rattle.calls.specs.Events.{refusalOf, isGiven, isCollecting, isJoined, nextCall, eventsCall};
 ghost use Rattle.calls.specs.Words.{NextDone, EventsGiven, EventsDone};
 use crate::record::RECORD_WORDS;
@@ -10,9 +12,13 @@ use crate::record::put_event;
 use delivery::event::Event;
 use delivery::event::Given;
 use delivery::event::Memory;
+use reassembly::words::load_config;
 use receiver::next::next;
+use receiver::next::read_on;
 use receiver::slot::is_short;
+use receiver::words::CONFIG;
 use receiver::words::STATE_WORDS;
+use receiver::words::is_owed;
 
 // The number of a refused next, else 0.
 fn refusal(event: Event) -> u8
@@ -83,22 +89,28 @@ pub fn next_record(words: &mut [u64], packet: &[u8], collecting: &mut [u8], out:
     refusal
 }
 
-// Calls next until it gives no note and no unit, there is no room for a record more, or it gave a joined unit.
+// Reads on until nothing waits, there is no room for a record more, or there was a joined unit. What `next` tests first of the memories
+// holds throughout: so `read_on`, not `next`.
 fn read_events(
     words: &mut [u64],
     packet: &[u8],
     collecting: &mut [u8],
     records: &mut [u64],
 ) -> usize
-    requires { ⌜ stateWords ≤ length (now words) ⌝ }
+    requires { ⌜ (stateWords ≤ length (now words))
+        × (shortBy (stateIn (now words) .config) (length (now packet)) (length (now collecting)) ≡ false) ⌝ }
     ensures { λ r. ⌜ EventsGiven (now (words .entry)) r (now (words .exit)) (now (collecting .exit)) (now (records .exit))
         (stateIn (now (words .entry))) (now (packet .entry)) (now (collecting .entry)) (now (records .entry)) ⌝ }
 {
+    let config = load_config(words, CONFIG);
     let room = records.len() / RECORD_WORDS;
     let mut n = 0;
     let mut at = 0;
     while n < room {
-        let event = next(words, packet, collecting);
+        if !is_owed(words) {
+            return n;
+        }
+        let event = read_on(config, words, packet, collecting);
         if !is_given(event) {
             return n;
         }

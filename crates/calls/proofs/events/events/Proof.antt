@@ -33,6 +33,11 @@ returns-3 c =
       exact = exact-none _;
     }
 
+read-events-requires : tie.Need-read-events-requires
+read-events-requires c κs =
+    let e = c .before .before .before in
+    (e .before .before .before .before .if1 .left, sym (e .before .is-short .ensures) ∙ e .if3 .left)
+
 returns-4 : tie.Need-returns-4
 returns-4 c =
     let r = c .before .before .before .before .before .before in
@@ -57,7 +62,7 @@ events-spec =
     (λ c κs. search needs)
     (λ c. search needs)
     returns-3
-    (λ c κs. search needs)
+    read-events-requires
     (λ c. search needs)
     (λ c. search needs)
     (λ c. search needs)
