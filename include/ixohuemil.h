@@ -96,7 +96,7 @@ enum {
     IXOHUEMIL_NOTE_UNIT_LONG = 64          /* a joined unit above the limit R */
 };
 
-/* What start is told. Set all of it to 0 first; later settings take the words in `later`. */
+/* What start is told. Set all of it to 0 first; later settings take the words in `later`. Words behind these 32 do not count. */
 typedef struct ixohuemil_settings {
     uint64_t stream_id;      /* the TLV stream's id, at most 65,535 */
     uint64_t cid;            /* the context id of the IP flow, at most 4,095 */
@@ -118,7 +118,8 @@ enum {
 };
 
 /* A note or a unit. Words that do not apply are 0. A unit's bytes are `length` bytes from `start` on in its memory: of
- * packet memory until the next call of slot, of collecting memory until the next call of next or events. */
+ * packet memory until the next call of slot, of collecting memory until the next call of next or events. In a record that is
+ * lent, a `memory` other than 0 or 1 reads as collecting memory, and words behind the 24 do not count. */
 typedef struct ixohuemil_event {
     uint64_t what;           /* nothing waits, a note or a unit */
     uint64_t note;           /* the note's number */
@@ -170,12 +171,14 @@ uint8_t ixohuemil_next(uint64_t *state, size_t state_words, const uint8_t *packe
                        size_t collecting_bytes, ixohuemil_event *event, size_t event_words);
 
 /* Writes as many events as there are, or as `events` holds, and their number to `*count`. It ends early behind a joined unit,
- * so that the bytes of all that it gives stand where they say. Call it until `*count` is 0. Refusals: 90, 92, 22. */
+ * so that the bytes of all that it gives stand where they say. Call it until `*count` is 0. A `*count` below what `events`
+ * holds, whose last event is no joined unit, also means that nothing waits: use the records before the next slot is given.
+ * Words behind the last record, and a rest of fewer than 24 words, stay as they were. Refusals: 90, 92, 22. */
 uint8_t ixohuemil_events(uint64_t *state, size_t state_words, const uint8_t *packet, size_t packet_bytes, uint8_t *collecting,
                          size_t collecting_bytes, ixohuemil_event *events, size_t events_words, uint64_t *count);
 
-/* Copies a unit's bytes to the front of `output`, and their number to `*length`: 0 for a place outside its memory.
- * Refusals: 92, 93. */
+/* Copies a unit's bytes to the front of `output`, and their number to `*length`: 0 for a place outside its memory. Only
+ * `memory`, `start` and `length` of `event` count, `what` does not. Refusals: 92, 93. */
 uint8_t ixohuemil_show(const uint8_t *packet, size_t packet_bytes, const uint8_t *collecting, size_t collecting_bytes,
                        const ixohuemil_event *event, size_t event_words, uint8_t *output, size_t output_bytes,
                        uint64_t *length);
