@@ -1,2 +1,3 @@
 -- What is proved of slots beside the code.
 pub mod SlotLaws
+pub mod EarlyCopies

@@ -1,4 +1,5 @@
 -- The definitions of intake.
 pub mod Slot
+pub mod Early
 pub mod Examples
 pub mod Words

@@ -97,10 +97,11 @@ takenBy false on h p d t = (record { held = searching; cursor = noted (numberOf 
 takenBy true false h p d t = (readingFrom 0 0 (t .0) (length d), p)
 takenBy true true h p d t = resumedOf h p d t
 
+abbrev pub settledOf : Held → List ℕ → List ℕ → Pointers → IntakeOut
+settledOf h p d t = takenBy (sound d (t .0) (t .1)) (h .on) h p d t
+
 unfoldable pub intakeOf : Held → List ℕ → List ℕ → Pointers → IntakeOut
-intakeOf h p d t =
-    let r = takenBy (sound d (t .0) (t .1)) (h .on) h p d t in
-    (r .0, copied (r .1) d)
+intakeOf h p d t = let r = settledOf h p d t in (r .0, copied (r .1) d)
 
 -- "A lost slot makes it searching, with note 40 if it wasn't"
 unfoldable pub lostOf : Held → Intake
@@ -108,6 +109,17 @@ lostOf h = record { held = searching; cursor = noted (cond (h .on) (numberOf Los
 
 -- Laws: an own live slot that is unsound, one while searching, and one with bytes held.
 module _ (h : Held) (p d : List ℕ) (t : Pointers) where
+  pub settled-unsound : sound d (t .0) (t .1) ≡ false
+      → settledOf h p d t ≡ (record { held = searching; cursor = noted (numberOf Unsound) }, p)
+  settled-unsound s = rw s
+
+  module _ (s : sound d (t .0) (t .1) ≡ true) where
+    pub settled-searching : h .on ≡ false → settledOf h p d t ≡ (readingFrom 0 0 (t .0) (length d), p)
+    settled-searching o = rw (s, o)
+
+    pub settled-held : h .on ≡ true → settledOf h p d t ≡ resumedOf h p d t
+    settled-held o = rw (s, o)
+
   pub taken-unsound : sound d (t .0) (t .1) ≡ false
       → intakeOf h p d t ≡ (record { held = searching; cursor = noted (numberOf Unsound) }, copied p d)
   unfolding intakeOf

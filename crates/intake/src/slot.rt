@@ -8,7 +8,8 @@ ghost use Rattle.tlv.specs.Notes.{numberOf};
 ghost use Rattle.tlv.specs.Slot.{sound};
 ghost use Rattle.tlv.specs.Held.{continuationOf};
 ghost use Rattle.intake.specs.Slot.{packetMemory, searching, holding, noted, cursorFrom, readingFrom};
-ghost use Rattle.intake.specs.Slot.{heldBytes, heldLen, movedMem, continuedMem, resumedAs, resumedOf, intakeOf, lostOf};
+ghost use Rattle.intake.specs.Slot.{heldBytes, heldLen, movedMem, continuedMem, resumedAs, resumedOf, settledOf, intakeOf, lostOf};
+ghost use Rattle.intake.specs.Early.{freePart};
 use crate::held::Cursor;
 use crate::held::Held;
 use crate::held::Intake;
@@ -172,22 +173,50 @@ fn resume_slot(held: Held, packet: &mut [u8], bytes: &[u8], t: Pointers) -> Inta
     }
 }
 
-// An own live slot with its bytes.
+// How many of the first `n` bytes of the slot's place no held byte stands in; none where the held bytes are not in that place alone.
+fn free_part(held: Held, n: usize) -> usize
+    ensures { λ r. ⌜ r ≡ freePart held n ⌝ }
+{
+    if !held.on {
+        return n;
+    }
+    if held.start < SLOT_AREA {
+        return 0;
+    }
+    if SLOT_AREA < held.len {
+        return 0;
+    }
+    let k = held.start - SLOT_AREA;
+    if n < k {
+        return n;
+    }
+    k
+}
+
+// What a slot does, before it is copied.
+fn settle(held: Held, packet: &mut [u8], bytes: &[u8], t: Pointers) -> Intake
+    requires { ⌜ (packetMemory ≤ length (now packet)) × (length (now bytes) ≤ 5049) ⌝ }
+    ensures { λ r. ⌜ (r, now (packet .exit)) ≡ settledOf held (now (packet .entry)) (now (bytes .entry)) t ⌝ }
+{
+    if !tlv::slot::is_sound(bytes, t.0, t.1) {
+        return mark_unsound();
+    }
+    if held.on {
+        return resume_slot(held, packet, bytes, t);
+    }
+    read_from(0, 0, t.0, bytes.len())
+}
+
+// An own live slot with its bytes. What can be copied of it is copied first: then its packets are walked in the cache.
 pub fn take(held: Held, packet: &mut [u8], bytes: &[u8], t: Pointers) -> Intake
     requires { ⌜ (packetMemory ≤ length (now packet)) × (length (now bytes) ≤ 5049) ⌝ }
     ensures { λ r. ⌜ (r, now (packet .exit)) ≡ intakeOf held (now (packet .entry)) (now (bytes .entry)) t ⌝ }
 {
-    if !tlv::slot::is_sound(bytes, t.0, t.1) {
-        wire::memory::copy_at(packet, SLOT_AREA, bytes);
-        return mark_unsound();
-    }
-    if held.on {
-        let next = resume_slot(held, packet, bytes, t);
-        wire::memory::copy_at(packet, SLOT_AREA, bytes);
-        return next;
-    }
-    wire::memory::copy_at(packet, SLOT_AREA, bytes);
-    read_from(0, 0, t.0, bytes.len())
+    let k = free_part(held, bytes.len());
+    wire::memory::copy_at(packet, SLOT_AREA, &bytes[0..k]);
+    let taken = settle(held, packet, bytes, t);
+    wire::memory::copy_at(packet, SLOT_AREA + k, &bytes[k..]);
+    taken
 }
 
 // A lost one: searching, with a note if it wasn't.
