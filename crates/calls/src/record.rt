@@ -68,7 +68,7 @@ fn put_unit(t: &mut [u64], i: usize, given: Given)
 }
 
 // The record of an event, from word `i` on.
-pub fn put_event(t: &mut [u64], i: usize, event: Event)
+pub(crate) fn put_event(t: &mut [u64], i: usize, event: Event)
     requires { ⌜ i + 24 ≤ length (now t) ⌝ }
     ensures { λ _. ⌜ EventStored (now (t .entry)) (now (t .exit)) i event ⌝ }
 {
@@ -90,7 +90,7 @@ fn memory_of(n: u64) -> Memory
 }
 
 // The place that a record has.
-pub fn load_place(t: &[u64]) -> Place
+pub(crate) fn load_place(t: &[u64]) -> Place
     requires { ⌜ 24 ≤ length (now t) ⌝ }
     ensures { λ r. ⌜ r ≡ readPlace (now (t .entry)) 0 ⌝ }
 {
