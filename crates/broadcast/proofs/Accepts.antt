@@ -11,7 +11,7 @@ use Rattle.tmcc.specs.Block.{ownStream}
 use Rattle.tmcc.proofs.Laws.{accepted-layout, layout-sizes, layout-most}
 use Rattle.tlv.specs.Run.{searching}
 use Rattle.reassembly.specs.Run.{fresh}
-use Rattle.receiver.specs.Start.{startOf, started as fresh-start, accepts as start-accepts}
+use Rattle.state.specs.Start.{startOf, started as fresh-start, accepts as start-accepts}
 use Rattle.receiver.specs.Slot.{length-right}
 use Rattle.broadcast.specs.Frames.{Frame, layoutIn}
 use Rattle.broadcast.specs.Demand3.{started}

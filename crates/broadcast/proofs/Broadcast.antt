@@ -67,13 +67,13 @@ use Rattle.reassembly.specs.Channel.{nextPsn, heard, gap, unheard}
 use Rattle.reassembly.specs.Join.{interrupted, begun, counterFollows, grown, extended, followed, acted, joinOf, notesOf}
 use Rattle.reassembly.specs.Run.{Content, Input, step, fresh, count}
 use Rattle.reassembly.specs.Sent.{openUnit, sentAfter, sent}
-use Rattle.receiver.specs.Start.{startRefusal, startOf, twiceBelow, twice, before, startFrom}
+use Rattle.state.specs.Start.{startRefusal, startOf, twiceBelow, twice, before, startFrom}
 use Rattle.receiver.specs.Slot.{wrongLength}
 use Rattle.broadcast.specs.Account.{readOf, events, account}
 use Rattle.broadcast.specs.Carried.{inputs, rowInputs, carriedUnits, intactUnits, contents, Few}
 use Rattle.intake.specs.Slot.{packetMemory, heldBytes}
 use Rattle.delivery.specs.declared.event.Event.the-variants.{Nothing}
-use Rattle.receiver.specs.State.{State}
+use Rattle.state.specs.State.{State}
 use Rattle.receiver.specs.Next.{nextOf}
 use Rattle.broadcast.specs.Drains.{Shown, note, unit, strip, Drains, stops, notes, units, HeldIs}
 use Rattle.broadcast.specs.Calls.{Machine, frame, slot as slot-call, next, Did, did, Made}

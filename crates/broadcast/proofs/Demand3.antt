@@ -17,12 +17,12 @@ use Rattle.reassembly.specs.declared.config.Config.{Config}
 use Rattle.reassembly.specs.declared.channel.Channel.{Channel}
 use Rattle.reassembly.specs.Channel.{unheard}
 use Rattle.reassembly.specs.Run.{Event as Account-event, note as account-note, unit as account-unit, fresh, Clean, units}
-use Rattle.receiver.specs.State.{State, accepted as acceptedAs, refused as refusedWith, withFrame}
+use Rattle.state.specs.State.{State, accepted as acceptedAs, refused as refusedWith, withFrame}
 use Rattle.tmcc.specs.Block.{decodeOf}
 use Rattle.intake.specs.Slot.{packetMemory}
 use Rattle.receiver.specs.Frame.{frameBusy, frameOf}
 use Rattle.receiver.specs.Slot.{slotRefusal, wrongLength, slotOf, slotTaken, dueLength, dueOwn, duePointers, ready}
-use Rattle.receiver.specs.Start.{startRefusal, startOf, freshState, blankConfig, starts, startFrom}
+use Rattle.state.specs.Start.{startRefusal, startOf, freshState, blankConfig, starts, startFrom}
 use Rattle.broadcast.specs.Account.{account}
 use Rattle.broadcast.specs.Carried.{inputs, rowInputs, carriedUnits, intactUnits, contents, Few}
 use Rattle.broadcast.specs.Drains.{strip, LaneIs}

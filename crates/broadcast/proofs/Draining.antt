@@ -15,7 +15,7 @@ use Rattle.delivery.specs.declared.event.Event.the-variants.{Nothing, Note, Uni
 use Rattle.delivery.specs.declared.cursor.Found.{Found}
 use Rattle.delivery.specs.declared.cursor.Found.the-variants.{Event as AnEvent, Packet, Tail, Done}
 use Rattle.intake.specs.declared.held.Cursor.{Cursor}
-use Rattle.receiver.specs.State.{Frame, State, withSlot, withQueue}
+use Rattle.state.specs.State.{Frame, State, withSlot, withQueue}
 use Rattle.delivery.specs.Waiting.{Queue}
 use Rattle.intake.specs.Slot.{packetMemory, holding}
 use Rattle.delivery.specs.Queue.{eventTaken}

@@ -26,8 +26,8 @@ use Rattle.delivery.specs.Waiting.{Queue}
 use Rattle.delivery.specs.Choice.{by-test}
 use Rattle.delivery.specs.Cursor.{advancedOf, turnBy, turnOf, left}
 use Rattle.delivery.specs.Queue.{eventTaken}
-use Rattle.receiver.specs.State.{State, Called, withSlot, withQueue}
-use Rattle.receiver.specs.Start.{startRefusal, freshState, startOf, startFrom}
+use Rattle.state.specs.State.{State, Called, withSlot, withQueue}
+use Rattle.state.specs.Start.{startRefusal, freshState, startOf, startFrom}
 use Rattle.receiver.specs.Frame.{frameBusy, frameOf, lossOf, lostFrameOf, free}
 use Rattle.receiver.specs.Slot.{SlotOut, slotRefusal, counted, dueLength, duePointers, dueOwn, wrongLength, slotTaken, slotOf, lossTaken, lostSlotOf, ready, right-length, shortBy}
 use Rattle.receiver.specs.Next.{NextOut, packetOf, past, onwards, readOn, readAll, nextOf}

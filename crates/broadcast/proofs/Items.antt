@@ -13,7 +13,7 @@ use Rattle.tlv.specs.Run.{Stepped, State as Slot-state, step, given, lost}
 use Rattle.reassembly.specs.declared.config.Config.{Config}
 use Rattle.reassembly.specs.Run.{Lane}
 use Rattle.intake.specs.Slot.{packetMemory}
-use Rattle.receiver.specs.State.{Frame, State}
+use Rattle.state.specs.State.{Frame, State}
 use Rattle.delivery.specs.Waiting.{Queue}
 use Rattle.receiver.specs.Frame.{frameBusy, lossOf, lostFrameOf}
 use Rattle.receiver.specs.Slot.{

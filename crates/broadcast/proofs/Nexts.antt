@@ -7,7 +7,7 @@ use lib.ListN.{length}
 use Rattle.delivery.specs.declared.event.Event.the-variants.{Nothing, Note, Unit}
 use Rattle.delivery.specs.declared.event.Given.{Given}
 use Rattle.reassembly.specs.declared.config.Config.{Config}
-use Rattle.receiver.specs.State.{State}
+use Rattle.state.specs.State.{State}
 use Rattle.broadcast.specs.Drains.{Shown, Drains, stops, notes, units}
 use Rattle.broadcast.specs.Calls.{
   Machine,

@@ -30,7 +30,7 @@ use Rattle.reassembly.specs.Run.{Input, Event, note as account-note, Lane, lane
 use Rattle.delivery.specs.declared.packet.Located.{Located}
 use Rattle.delivery.specs.declared.packet.Arrived.the-variants.{Good}
 use Rattle.delivery.specs.Waiting.{Queue}
-use Rattle.receiver.specs.State.{State, withQueue, withChannels}
+use Rattle.state.specs.State.{State, withQueue, withChannels}
 use Rattle.delivery.specs.Queue.{empty}
 use Rattle.delivery.specs.Packet.{bytesAt, unitIn, baseOf, stepOf, queueOf, joinedOf, arrivedAt, readBy, flowBy}
 use Rattle.receiver.specs.Next.{arrivedBy, packetOf}

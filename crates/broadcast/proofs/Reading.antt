@@ -14,7 +14,7 @@ use Rattle.tlv.proofs.Runs.{run-append}
 use Rattle.tlv.specs.Run.{State as Slot-state, Arrival, lost, step, run, stateAfter}
 use Rattle.reassembly.specs.declared.config.Config.{Config}
 use Rattle.reassembly.specs.Run.{Lane}
-use Rattle.receiver.specs.State.{Frame as ReceiverFrame, State, withFrame, refused as refusedWith, accepted as acceptedAs}
+use Rattle.state.specs.State.{Frame as ReceiverFrame, State, withFrame, refused as refusedWith, accepted as acceptedAs}
 use Rattle.receiver.specs.Frame.{frameBusy, frameOf}
 use Rattle.receiver.specs.Slot.{wrongLength, slotRefusal, slotOf, slotTaken, dueLength, dueOwn, duePointers}
 use Rattle.broadcast.specs.Account.{events, lanesAfter}

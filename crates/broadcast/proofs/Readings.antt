@@ -15,7 +15,7 @@ use Rattle.tlv.specs.Run.{Arrival, State as Slot-state, lost, step, run, stateA
 use Rattle.reassembly.specs.declared.config.Config.{Config}
 use Rattle.reassembly.specs.Run.{Lane, fresh}
 use Rattle.intake.specs.Slot.{packetMemory}
-use Rattle.receiver.specs.State.{Frame as ReceiverFrame, State, accepted as acceptedAs, refused as refusedWith}
+use Rattle.state.specs.State.{Frame as ReceiverFrame, State, accepted as acceptedAs, refused as refusedWith}
 use Rattle.delivery.specs.declared.event.Event.the-variants.{Nothing, Refused}
 use Rattle.receiver.specs.Next.{answered, readOn, readAll, nextOf}
 use Rattle.delivery.specs.Cursor.{left}
@@ -60,7 +60,7 @@ use Rattle.broadcast.specs.Frames.{
   frameArrives,
   arrivals,
 }
-use Rattle.receiver.specs.Start.{startOf, freshState}
+use Rattle.state.specs.Start.{startOf, freshState}
 use Rattle.broadcast.specs.Demand3.{started, Reads, shownOf, refusedOf}
 use Rattle.broadcast.specs.Readings.{Begun, ReadingTheorem}
 use Rattle.broadcast.proofs.Refusals.{did-refused}

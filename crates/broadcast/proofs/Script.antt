@@ -5,7 +5,7 @@ use mathlib.Core.List.{List, [], _∷_, _++_}
 use native.Mathlib.Omega.{arith}
 use Rattle.delivery.specs.declared.event.Event.the-variants.{Nothing, Note, Unit}
 use Rattle.delivery.specs.declared.event.Given.{Given}
-use Rattle.receiver.specs.State.{Answer as NextAnswer, State}
+use Rattle.state.specs.State.{Answer as NextAnswer, State}
 use Rattle.receiver.specs.Next.{nextOf}
 use Rattle.broadcast.specs.Drains.{Shown, note, shown, Drains, stops, notes, units}
 use Rattle.broadcast.specs.Calls.{

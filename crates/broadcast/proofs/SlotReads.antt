@@ -41,7 +41,7 @@ use Rattle.tlv.proofs.Answers.{says, top-inside}
 use Rattle.tlv.proofs.Runs.{step-given}
 use Rattle.intake.specs.declared.held.Cursor.{Cursor}
 use Rattle.intake.specs.declared.held.Held.{Held}
-use Rattle.receiver.specs.State.{State, withSlot, withIntake}
+use Rattle.state.specs.State.{State, withSlot, withIntake}
 use Rattle.intake.specs.Slot.{
   packetMemory,
   searching,

@@ -7,7 +7,7 @@ use lib.ListN.{length}
 use Rattle.tmcc.specs.Block.{decodeOf}
 use Rattle.reassembly.specs.declared.config.Config.{Config}
 use Rattle.intake.specs.Slot.{packetMemory}
-use Rattle.receiver.specs.Start.{Starts}
+use Rattle.state.specs.Start.{Starts}
 use Rattle.broadcast.specs.Account.{account}
 use Rattle.broadcast.specs.Drains.{strip}
 use Rattle.broadcast.specs.Calls.{Made}

@@ -10,7 +10,7 @@ use Rattle.tmcc.specs.declared.layout.Layout.{Layout}
 use Rattle.tmcc.specs.Block.{decodeOf}
 use Rattle.reassembly.specs.declared.config.Config.{Config}
 use Rattle.reassembly.specs.Run.{Content}
-use Rattle.receiver.specs.Start.{startOf}
+use Rattle.state.specs.Start.{startOf}
 use Rattle.broadcast.specs.Carried.{Few}
 use Rattle.broadcast.specs.Drains.{Shown, note, unit}
 use Rattle.intake.specs.Slot.{heldBytes}

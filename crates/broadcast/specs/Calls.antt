@@ -8,7 +8,7 @@ use lib.Dec.{eqb}
 use Rattle.delivery.specs.declared.event.Event.{Event}
 use Rattle.delivery.specs.declared.event.Event.the-variants.{Nothing, Note, Unit, Refused}
 use Rattle.delivery.specs.declared.event.Given.{Given}
-use Rattle.receiver.specs.State.{State}
+use Rattle.state.specs.State.{State}
 use Rattle.receiver.specs.Frame.{frameOf, lostFrameOf}
 use Rattle.receiver.specs.Slot.{slotOf, lostSlotOf}
 use Rattle.receiver.specs.Next.{nextOf}

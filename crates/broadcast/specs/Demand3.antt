@@ -8,7 +8,7 @@ use lib.ListN.{length}
 use Rattle.tlv.specs.Run.{Slot}
 use Rattle.reassembly.specs.declared.config.Config.{Config}
 use Rattle.reassembly.specs.Run.{Content}
-use Rattle.receiver.specs.Start.{startOf}
+use Rattle.state.specs.Start.{startOf}
 use Rattle.broadcast.specs.Drains.{Shown, note, unit}
 use Rattle.broadcast.specs.Carried.{carriedUnits, intactUnits, Few, contents}
 use Rattle.broadcast.specs.Calls.{Machine, Made, Follows, allShown, refusals}

@@ -16,7 +16,7 @@ use Rattle.reassembly.specs.Run.{Content, Event as Account-event, note as accou
 use Rattle.delivery.specs.declared.event.Event.the-variants.{Nothing, Note, Unit}
 use Rattle.delivery.specs.declared.event.Given.{Given}
 use Rattle.intake.specs.declared.held.Held.{Held}
-use Rattle.receiver.specs.State.{State}
+use Rattle.state.specs.State.{State}
 use Rattle.intake.specs.Slot.{packetMemory, noted, heldBytes}
 use Rattle.delivery.specs.Queue.{empty}
 use Rattle.receiver.specs.Next.{nextOf}

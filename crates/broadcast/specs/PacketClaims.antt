@@ -12,7 +12,7 @@ use Rattle.reassembly.specs.Run.{Lane}
 use Rattle.delivery.specs.declared.event.Event.{Event}
 use Rattle.delivery.specs.declared.event.Event.the-variants.{Nothing, Note, Unit, Refused}
 use Rattle.delivery.specs.Waiting.{Give, Nothing as NoUnit, One, Many, Queue}
-use Rattle.receiver.specs.State.{State}
+use Rattle.state.specs.State.{State}
 use Rattle.delivery.specs.Queue.{empty, eventTaken}
 use Rattle.receiver.specs.Next.{packetOf}
 use Rattle.broadcast.specs.Account.{After, readOf, afterRead}

@@ -4,7 +4,7 @@ use mathlib.Core.Path.{_≡_}
 use mathlib.Core.List.{List, [], _∷_, map}
 use lib.ListN.{length}
 use Rattle.reassembly.specs.declared.config.Config.{Config}
-use Rattle.receiver.specs.Start.{startOf}
+use Rattle.state.specs.Start.{startOf}
 use Rattle.broadcast.specs.Account.{account}
 use Rattle.broadcast.specs.Drains.{strip}
 use Rattle.broadcast.specs.Calls.{Made}

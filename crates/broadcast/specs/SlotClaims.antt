@@ -15,7 +15,7 @@ use Rattle.delivery.specs.declared.event.Event.{Event as AnEvent}
 use Rattle.delivery.specs.declared.event.Event.the-variants.{Nothing, Note, Unit as Given-unit, Refused}
 use Rattle.delivery.specs.declared.cursor.Found.the-variants.{Event, Packet, Tail, Done}
 use Rattle.intake.specs.declared.held.Cursor.{Cursor}
-use Rattle.receiver.specs.State.{Frame, State}
+use Rattle.state.specs.State.{Frame, State}
 use Rattle.intake.specs.declared.held.Held.{Held}
 use Rattle.intake.specs.Slot.{searching, holding, noted, slotArea}
 use Rattle.delivery.specs.Cursor.{advancedOf, left}

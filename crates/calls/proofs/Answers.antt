@@ -9,12 +9,12 @@ use borrow.Author.Tests.{ltb-true, ltb-false, eqb-true, eqb-false}
 use lib.Dec.{eqb, ltb}
 use lib.ListN.{length}
 use Rattle.delivery.specs.declared.event.Event.{Event}
-use Rattle.receiver.specs.State.{State}
+use Rattle.state.specs.State.{State}
 use Rattle.receiver.specs.Slot.{shortBy}
 use Rattle.receiver.specs.Next.{nextOf, next-short}
 use Rattle.receiver.specs.Show.{showOf}
 use Rattle.receiver.proofs.Demand1.{demand-1}
-use Rattle.reassembly.specs.Words.{readConfig}
+use Rattle.words.specs.Channel.{readConfig}
 use Rattle.calls.specs.Bounds.{areWithin}
 use Rattle.calls.specs.Settings.{settingsMost, start-by, start-not}
 use Rattle.calls.specs.Record.{recordWords, readPlace}

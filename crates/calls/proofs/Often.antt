@@ -7,7 +7,7 @@ use mathlib.Core.List.{List, [], _∷_, _++_}
 use native.Mathlib.Omega.{arith}
 use lib.ListN.{length}
 use Rattle.delivery.specs.declared.event.Event.{Event}
-use Rattle.receiver.specs.State.{State}
+use Rattle.state.specs.State.{State}
 use Rattle.receiver.specs.Next.{NextOut, nextOf}
 use Rattle.calls.specs.Events.{Many, none, behind, isGiven, isJoined, eventsOf}
 use Rattle.calls.specs.Claims.{nextTimes, OnlyLastJoined, EndsJoined, Stopped, Ended, AsByNext, EventsClaim}

@@ -10,8 +10,8 @@ use lib.Dec.{leb}
 use lib.ListN.{length, getD, replicate, length-append}
 use Rattle.wire.specs.Words.{holds-front, holds-put}
 use Rattle.reassembly.specs.declared.config.Config.{Config}
-use Rattle.reassembly.specs.Words.{SizedConfig, readConfig, configWords, unitWords, fieldWords, length-config, config-put}
-use Rattle.receiver.specs.Start.{startFrom}
+use Rattle.words.specs.Channel.{SizedConfig, readConfig, configWords, unitWords, fieldWords, length-config, config-put}
+use Rattle.state.specs.Start.{startFrom}
 use Rattle.calls.specs.Bounds.{areWithin}
 use Rattle.calls.specs.Record.{unitRecord}
 use Rattle.calls.specs.Settings.{most16, most64, settingsMost, start-by}

@@ -8,13 +8,13 @@ use mathlib.Core.List.{List, [], _∷_, _++_}
 use lib.ListN.{length, replicate}
 use Rattle.wire.specs.Memory.{pasted}
 use Rattle.reassembly.specs.declared.config.Config.{Config}
-use Rattle.reassembly.specs.Words.{SizedConfig, readConfig}
+use Rattle.words.specs.Channel.{SizedConfig, readConfig}
 use Rattle.delivery.specs.declared.event.Event.{Event}
 use Rattle.delivery.specs.declared.event.Given.{Given}
-use Rattle.receiver.specs.State.{State, refused}
+use Rattle.state.specs.State.{State, refused}
 use Rattle.receiver.specs.Slot.{shortBy}
 use Rattle.receiver.specs.Next.{nextOf}
-use Rattle.receiver.specs.Start.{startFrom}
+use Rattle.state.specs.Start.{startFrom}
 use Rattle.receiver.specs.Show.{showOf}
 use Rattle.calls.specs.Bounds.{areWithin}
 use Rattle.calls.specs.Settings.{most64, settingsMost, startBy}

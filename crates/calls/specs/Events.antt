@@ -13,7 +13,7 @@ use Rattle.delivery.specs.declared.event.Memory.{Memory}
 use Rattle.delivery.specs.declared.event.Memory.the-variants.{Packet, Collecting}
 use Rattle.delivery.specs.declared.event.Event.{Event}
 use Rattle.delivery.specs.declared.event.Event.the-variants.{Nothing, Note, Unit, Refused}
-use Rattle.receiver.specs.State.{State}
+use Rattle.state.specs.State.{State}
 use Rattle.receiver.specs.Slot.{shortBy}
 use Rattle.receiver.specs.Next.{NextOut, nextOf}
 use Rattle.calls.specs.Record.{recordWords, eventRecord, EventStored, length-record}

@@ -11,7 +11,7 @@ use Rattle.tmcc.specs.Layout.{blankLayout}
 use Rattle.mmtp.specs.Watch.{firstFrom, lookupOf}
 use Rattle.reassembly.specs.declared.config.Config.{Config}
 use Rattle.reassembly.specs.Channel.{unheard}
-use Rattle.reassembly.specs.Words.{readIds, readConfig, configWords, readFields, readUnit, fieldWords, unitWords}
+use Rattle.words.specs.Channel.{readIds, readConfig, configWords, readFields, readUnit, fieldWords, unitWords}
 use Rattle.intake.specs.Slot.{noted}
 use Rattle.delivery.specs.declared.event.Memory.{Memory}
 use Rattle.delivery.specs.declared.event.Memory.the-variants.{Packet, Collecting}
@@ -20,8 +20,8 @@ use Rattle.delivery.specs.declared.event.Event.the-variants.{Nothing, Note, Uni
 use Rattle.delivery.specs.Waiting.{One}
 use Rattle.delivery.specs.Queue.{empty, giving, eventTaken}
 use Rattle.delivery.specs.Cursor.{turnOf, advancedOf, left}
-use Rattle.receiver.specs.State.{State, withOwed, withSlot, withQueue, refused}
-use Rattle.receiver.specs.Start.{before, twiceBelow, twice, freshState, startRefusal, startFrom}
+use Rattle.state.specs.State.{State, withOwed, withSlot, withQueue, refused}
+use Rattle.state.specs.Start.{before, twiceBelow, twice, freshState, startRefusal, startFrom}
 use Rattle.receiver.specs.Slot.{shortBy}
 use Rattle.receiver.specs.Next.{readOn, readAll, nextOf}
 use Rattle.receiver.specs.Show.{showOf}

@@ -10,7 +10,7 @@ use borrow.Author.Tests.{le-leb}
 use lib.Dec.{eqb, leb}
 use lib.ListN.{length, getD, replicate, length-append}
 use Rattle.wire.specs.Words.{Put, holds-front, holds-behind, holds-put}
-use Rattle.reassembly.specs.Words.{readUnit, unitWords, fieldWords, SizedUnit, UnitStored, length-unit, unit-put}
+use Rattle.words.specs.Channel.{readUnit, unitWords, fieldWords, SizedUnit, UnitStored, length-unit, unit-put}
 use Rattle.delivery.specs.declared.event.Memory.{Memory}
 use Rattle.delivery.specs.declared.event.Memory.the-variants.{Packet, Collecting}
 use Rattle.delivery.specs.declared.event.Place.{Place}

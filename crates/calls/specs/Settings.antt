@@ -4,9 +4,9 @@ use mathlib.Core.Path.{_≡_}
 use mathlib.Core.Bool.{true, false, cond}
 use mathlib.Core.List.{List, [], _∷_, _++_}
 use lib.ListN.{length, replicate}
-use Rattle.reassembly.specs.Words.{readConfig, configWords}
-use Rattle.receiver.specs.State.{State, Called, refused}
-use Rattle.receiver.specs.Start.{startFrom}
+use Rattle.words.specs.Channel.{readConfig, configWords}
+use Rattle.state.specs.State.{State, Called, refused}
+use Rattle.state.specs.Start.{startFrom}
 use Rattle.calls.specs.Bounds.{areWithin, within-enough}
 
 abbrev pub settingsWords : ℕ

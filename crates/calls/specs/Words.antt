@@ -3,8 +3,8 @@ use Prim.Native.Nat.{ℕ, _/_, _<_, _≤_}
 use mathlib.Core.Path.{_≡_}
 use mathlib.Core.List.{List}
 use lib.ListN.{length}
-use Rattle.receiver.specs.Words.{stateWords, stateIn, Exact}
-use Rattle.receiver.specs.State.{State}
+use Rattle.state.specs.Words.{stateWords, stateIn, Exact}
+use Rattle.state.specs.State.{State}
 use Rattle.calls.specs.Record.{recordWords}
 use Rattle.calls.specs.Events.{NextLeft, EventsLeft, eventsOf, eventsLeft}
 

@@ -3,7 +3,7 @@ ghost use mathlib.Core.Path.{_≡_};
 ghost use mathlib.Core.Bool.{false};
 ghost use Prim.Native.Nat.{_≤_};
 ghost use lib.ListN.{length};
-ghost use Rattle.receiver.specs.Words.{stateWords, stateIn};
+ghost use Rattle.state.specs.Words.{stateWords, stateIn};
 ghost use Rattle.receiver.specs.Slot.{shortBy};
 ghost use Rattle.calls.specs.Events.{refusalOf, isGiven, isCollecting, isJoined, nextCall, eventsCall};
 ghost use Rattle.calls.specs.Words.{NextDone, EventsGiven, EventsDone};
@@ -12,13 +12,13 @@ use crate::record::put_event;
 use delivery::event::Event;
 use delivery::event::Given;
 use delivery::event::Memory;
-use reassembly::words::load_config;
+use words::channel::load_config;
 use receiver::next::next;
 use receiver::next::read_on;
 use receiver::slot::is_short;
-use receiver::words::CONFIG;
-use receiver::words::STATE_WORDS;
-use receiver::words::is_owed;
+use state::places::CONFIG;
+use state::places::STATE_WORDS;
+use state::places::is_owed;
 
 // The number of a refused next, else 0.
 fn refusal(event: Event) -> u8

@@ -11,7 +11,7 @@ use delivery::event::Event;
 use delivery::event::Given;
 use delivery::event::Memory;
 use delivery::event::Place;
-use reassembly::words::store_unit;
+use words::channel::store_unit;
 
 // What it is; a note's number; a unit's place; what a unit carries, of a note its packet_id; words for later fields.
 pub const RECORD_WORDS: usize = 24;

@@ -1,12 +1,12 @@
 // Start, with its settings in words.
 ghost use mathlib.Core.Path.{_≡_};
-ghost use Rattle.receiver.specs.Words.{stateIn, Starts};
+ghost use Rattle.state.specs.Words.{stateIn, Starts};
 ghost use Rattle.calls.specs.Bounds.{areWithin};
 ghost use Rattle.calls.specs.Settings.{settingsMost, startBy};
 use crate::bounds::are_within;
-use reassembly::words::load_config;
-use receiver::start::start;
-use receiver::words::STATE_WORDS;
+use words::channel::load_config;
+use state::start::start;
+use state::places::STATE_WORDS;
 
 // Whether there are 32 words, each one that its setting can have: stream id, CID, n, R, sixteen packet_ids, and zeros.
 fn are_settings(settings: &[u64]) -> bool

@@ -6,8 +6,8 @@ use lib.ListN.{length, getD, take, drop}
 use lib.Dec.{eqb}
 use Rattle.delivery.specs.declared.event.Event.{Event}
 use Rattle.delivery.specs.declared.event.Event.the-variants.{Nothing, Note, Unit, Refused}
-use Rattle.receiver.specs.State.{Called, State, withOwed, accepted}
-use Rattle.receiver.specs.Start.{startFrom}
+use Rattle.state.specs.State.{Called, State, withOwed, accepted}
+use Rattle.state.specs.Start.{startFrom}
 use Rattle.receiver.specs.Frame.{frameOf, lostFrameOf}
 use Rattle.receiver.specs.Slot.{slotOf, lostSlotOf}
 use Rattle.receiver.specs.Next.{nextOf}

@@ -12,7 +12,7 @@ use Rattle.mmtp.specs.Watch.{firstFrom, lookupOf}
 use Rattle.reassembly.specs.Channel.{unheard}
 use Rattle.intake.specs.Slot.{lostOf}
 use Rattle.delivery.specs.Cursor.{left}
-use Rattle.receiver.specs.Start.{before, twiceBelow, twice, freshState, startRefusal, startFrom}
+use Rattle.state.specs.Start.{before, twiceBelow, twice, freshState, startRefusal, startFrom}
 use Rattle.receiver.specs.Frame.{frameBusy, frameOf, lossOf, lostFrameOf}
 use Rattle.receiver.specs.Slot.{shortBy, slotRefusal, slotOf, lostSlotOf}
 use Rattle.receiver.specs.Next.{nextOf}

@@ -20,7 +20,7 @@ use Rattle.delivery.specs.declared.cursor.Found.the-variants.{Event, Packet, Ta
 use Rattle.delivery.specs.declared.cursor.Advanced.{Advanced}
 use Rattle.delivery.specs.Queue.{eventTaken}
 use Rattle.delivery.specs.Cursor.{left, isEvent, advancedBy, advancedOf, slotAdvanced, tailAdvanced, turnBy, turnOf, turn-less}
-use Rattle.receiver.specs.State.{State}
+use Rattle.state.specs.State.{State}
 use Rattle.receiver.specs.Next.{NextOut, past, onwards, packetOf, readOn, readAll}
 use Rattle.receiver.specs.ReadOn.{packet-kept}
 

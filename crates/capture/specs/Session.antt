@@ -2,15 +2,15 @@
 use Prim.Native.Nat.{ℕ, _+_, _%_, _^_}
 use mathlib.Core.Bool.{Bool, true, false, _&&_}
 use mathlib.Core.List.{List}
-use Rattle.receiver.specs.State.{State}
-use Rattle.receiver.specs.Start.{freshState, blankConfig}
+use Rattle.state.specs.State.{State}
+use Rattle.state.specs.Start.{freshState, blankConfig}
 use Rattle.capture.specs.declared.session.Phase.{Phase}
 use Rattle.capture.specs.declared.session.Phase.the-variants.{Before, Reading, Ended}
 use Rattle.capture.specs.declared.session.Tally.{Tally}
 use Rattle.capture.specs.declared.session.Session.{Session as Values}
 use Rattle.capture.specs.declared.session.Progress.{Progress as ValuesProgress}
 use Rattle.capture.specs.declared.feed.Fed.{Fed as ValuesFed}
-use Rattle.receiver.specs.Words.{stateIn}
+use Rattle.state.specs.Words.{stateIn}
 
 pub record Session : Type 0 where
   pub phase : Phase

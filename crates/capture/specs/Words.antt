@@ -6,8 +6,8 @@ use mathlib.Core.List.{List}
 use lib.ListN.{length}
 use Rattle.delivery.specs.declared.event.Event.{Event}
 use Rattle.delivery.specs.declared.event.Event.the-variants.{Nothing, Note, Unit, Refused}
-use Rattle.receiver.specs.State.{State, Called, withOwed}
-use Rattle.receiver.specs.Words.{stateWords, stateIn, Clean, Exact}
+use Rattle.state.specs.State.{State, Called, withOwed}
+use Rattle.state.specs.Words.{stateWords, stateIn, Clean, Exact}
 use Rattle.capture.specs.declared.session.Session.{Session as Values}
 use Rattle.capture.specs.declared.session.Progress.{Progress as ValuesProgress}
 use Rattle.capture.specs.declared.feed.Fed.{Fed as ValuesFed}

@@ -5,7 +5,7 @@ ghost use Prim.Native.Nat.{ℕ, _+_, _≤_, _<_};
 ghost use lib.ListN.{length};
 ghost use Rattle.capture.specs.Command.{sizeBy, sizeOf};
 ghost use Rattle.capture.specs.Capture.{fits, callOf, afterCall};
-ghost use Rattle.receiver.specs.Words.{stateWords, stateIn};
+ghost use Rattle.state.specs.Words.{stateWords, stateIn};
 ghost use Rattle.capture.specs.Session.{sessionIn};
 ghost use Rattle.capture.specs.Steps.{actedOf};
 ghost use Rattle.capture.specs.Words.{Calls, Acts};
@@ -18,7 +18,7 @@ use crate::session::Session;
 use crate::session::Tally;
 use crate::session::end;
 use lines::line::put_refused;
-use receiver::words::due;
+use state::places::due;
 
 // Whether the command may stand here: C first and once.
 pub fn is_fit(phase: Phase, letter: Letter) -> bool
@@ -54,7 +54,7 @@ fn call(letter: Letter, words: &mut [u64], packet: &mut [u8], collecting: &[u8],
     match letter {
         Letter::Start => {
             let config = config(b);
-            receiver::start::start(config, words)
+            state::start::start(config, words)
         }
         Letter::Frame => receiver::frame::frame(words, &b[1..]),
         Letter::LostFrame => receiver::frame::lost_frame(words),

@@ -4,7 +4,7 @@ ghost use Prim.Native.Nat.{min, _+_, _≤_};
 ghost use lib.ListN.{length};
 ghost use Rattle.lines.specs.Line.{longestLine};
 ghost use Rattle.capture.specs.Command.{longestCommand};
-ghost use Rattle.receiver.specs.Words.{stateWords};
+ghost use Rattle.state.specs.Words.{stateWords};
 ghost use Rattle.capture.specs.Session.{isEnded, sessionIn};
 ghost use Rattle.capture.specs.Words.{Runs, Feeds};
 ghost use Rattle.capture.specs.Feed.{wantedOf, keptOf, Keeps, wholeSize, gatheredOf, bytesTaken, sourceOf, ranOf, goesBy, fedOf};
@@ -16,7 +16,7 @@ use crate::pour::pour;
 use crate::session::Phase;
 use crate::session::Progress;
 use crate::session::Session;
-use receiver::words::STATE_WORDS;
+use state::places::STATE_WORDS;
 
 // The longest command: S, its length, and 65,535 bytes.
 const LONGEST_COMMAND: usize = 65538;

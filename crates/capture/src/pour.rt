@@ -4,7 +4,7 @@ ghost use Prim.Native.Nat.{_+_, _≤_};
 ghost use lib.ListN.{length};
 ghost use Rattle.lines.specs.Line.{longestLine};
 ghost use Rattle.lines.specs.Text.{Put};
-ghost use Rattle.receiver.specs.Words.{stateWords};
+ghost use Rattle.state.specs.Words.{stateWords};
 ghost use Rattle.capture.specs.Session.{busy, sessionIn};
 ghost use Rattle.capture.specs.Capture.{eventLine, tallied};
 ghost use Rattle.capture.specs.Words.{closedValues, Pours, PoursOr};
@@ -20,11 +20,11 @@ use lines::line::is_line;
 use lines::line::put_note;
 use lines::line::put_refused;
 use lines::line::put_unit;
-use reassembly::words::load_config;
+use words::channel::load_config;
 use receiver::next::read_on;
-use receiver::words::CONFIG;
-use receiver::words::STATE_WORDS;
-use receiver::words::is_owed;
+use state::places::CONFIG;
+use state::places::STATE_WORDS;
+use state::places::is_owed;
 
 // Whether there is room for a longest line from `at` on.
 pub fn has_room(size: usize, at: usize) -> bool

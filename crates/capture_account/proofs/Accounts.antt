@@ -13,8 +13,8 @@ use Rattle.tmcc.specs.Layout.{blankLayout}
 use Rattle.tlv.specs.Run.{State as Slot-state, searching, run}
 use Rattle.reassembly.specs.declared.config.Config.{Config}
 use Rattle.reassembly.specs.Run.{Lane, fresh}
-use Rattle.receiver.specs.State.{Called, Frame as ReceiverFrame, State}
-use Rattle.receiver.specs.Start.{startOf, freshState}
+use Rattle.state.specs.State.{Called, Frame as ReceiverFrame, State}
+use Rattle.state.specs.Start.{startOf, freshState}
 use Rattle.lines.specs.Line.{refusedLine}
 use Rattle.capture.specs.declared.command.Letter.{Letter}
 use Rattle.capture.specs.declared.command.Letter.the-variants.{Start, Frame, LostFrame, Slot, LostSlot, Unknown}

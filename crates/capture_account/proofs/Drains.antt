@@ -6,7 +6,7 @@ use mathlib.Core.List.{List, [], _∷_}
 use native.Mathlib.Omega.{arith}
 use lib.ListN.{length}
 use Rattle.delivery.specs.declared.event.Event.the-variants.{Nothing, Note, Unit, Refused}
-use Rattle.receiver.specs.State.{Answer, State, withOwed}
+use Rattle.state.specs.State.{Answer, State, withOwed}
 use Rattle.receiver.specs.Slot.{shortBy}
 use Rattle.receiver.specs.Show.{showOf}
 use Rattle.receiver.specs.Next.{NextOut, nextOf, next-short, next-idle}

@@ -12,8 +12,8 @@ use Rattle.tlv.specs.Run.{Arrival}
 use Rattle.tlv.specs.Row.{row, packetsBy, rowPackets}
 use Rattle.reassembly.specs.declared.config.Config.{Config}
 use Rattle.reassembly.specs.Sent.{sentAfter, sent}
-use Rattle.receiver.specs.State.{State}
-use Rattle.receiver.specs.Start.{startOf, freshState}
+use Rattle.state.specs.State.{State}
+use Rattle.state.specs.Start.{startOf, freshState}
 use Rattle.receiver.specs.Slot.{shortBy}
 use Rattle.capture.specs.declared.command.Letter.the-variants.{Start}
 use Rattle.capture.specs.declared.session.Tally.{Tally}

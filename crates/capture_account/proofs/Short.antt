@@ -10,8 +10,8 @@ use borrow.Author.Tests.{eqb-true, eqb-false, ne-eqb, ltb-false}
 use Rattle.tmcc.specs.Block.{decodeOf}
 use Rattle.reassembly.specs.declared.config.Config.{Config}
 use Rattle.delivery.specs.Choice.{neither}
-use Rattle.receiver.specs.State.{Called, State, withFrame, refused as refusedWith, accepted as acceptedAs}
-use Rattle.receiver.specs.Start.{freshState}
+use Rattle.state.specs.State.{Called, State, withFrame, refused as refusedWith, accepted as acceptedAs}
+use Rattle.state.specs.Start.{freshState}
 use Rattle.receiver.specs.Frame.{frameBusy, frameOf, lossOf, lostFrameOf, frame-short, frame-busy, frame-refused, frame-accepted}
 use Rattle.receiver.specs.Frame.{lost-frame-busy, lost-frame-accepted}
 use Rattle.receiver.specs.Slot.{shortBy, slotRefusal, slot-refused, lost-refused}

@@ -13,7 +13,7 @@ use Rattle.tmcc.specs.Block.{decodeOf}
 use Rattle.tlv.specs.Run.{Arrival, State as Slot-state, Stepped, lost, step, run, stateAfter}
 use Rattle.reassembly.specs.declared.config.Config.{Config}
 use Rattle.reassembly.specs.Run.{Lane}
-use Rattle.receiver.specs.State.{Called, State, Frame as ReceiverFrame, withFrame, refused as refusedWith, accepted as acceptedAs}
+use Rattle.state.specs.State.{Called, State, Frame as ReceiverFrame, withFrame, refused as refusedWith, accepted as acceptedAs}
 use Rattle.receiver.specs.Slot.{counted, wrongLength, slotRefusal, slotOf, lostSlotOf, slotTaken, lossTaken}
 use Rattle.receiver.specs.Slot.{dueLength, dueOwn, duePointers, shortBy, long-enough}
 use Rattle.receiver.specs.Frame.{frameBusy, frameOf, lossOf, lostFrameOf}

@@ -8,7 +8,7 @@ use lib.Dec.{eqb}
 use borrow.Author.Tests.{not-true}
 use Rattle.delivery.specs.declared.event.Event.{Event}
 use Rattle.delivery.specs.declared.event.Event.the-variants.{Nothing, Note, Unit, Refused}
-use Rattle.receiver.specs.State.{Called}
+use Rattle.state.specs.State.{Called}
 use Rattle.receiver.specs.Next.{nextOf}
 use Rattle.lines.specs.Line.{unitLine, refusedLine}
 use Rattle.capture.specs.declared.command.Letter.{Letter}

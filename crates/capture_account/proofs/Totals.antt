@@ -9,7 +9,7 @@ use lib.Dec.{eqb}
 use Rattle.wire.specs.Choice.{either}
 use Rattle.delivery.specs.declared.event.Event.{Event}
 use Rattle.delivery.specs.declared.event.Event.the-variants.{Nothing, Note, Unit, Refused}
-use Rattle.receiver.specs.State.{Called, State}
+use Rattle.state.specs.State.{Called, State}
 use Rattle.receiver.specs.Next.{nextOf}
 use Rattle.capture.specs.declared.command.Letter.{Letter}
 use Rattle.capture.specs.declared.command.Letter.the-variants.{Start, Frame, LostFrame, Slot, LostSlot, Unknown}

@@ -8,7 +8,7 @@ use Rattle.tlv.specs.Run.{Arrival, searching}
 use Rattle.reassembly.specs.declared.config.Config.{Config}
 use Rattle.reassembly.specs.Run.{Content, Labelled, fresh}
 use Rattle.intake.specs.Slot.{packetMemory}
-use Rattle.receiver.specs.Start.{startOf}
+use Rattle.state.specs.Start.{startOf}
 use Rattle.lines.specs.Line.{endLine}
 use Rattle.capture.specs.declared.command.Letter.the-variants.{Start}
 use Rattle.capture.specs.Command.{letterOf, configOf}

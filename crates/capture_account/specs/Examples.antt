@@ -5,7 +5,7 @@ use mathlib.Core.Path.{_≡_}
 use mathlib.Core.List.{List, [], _∷_, _++_}
 use lib.ListN.{replicate}
 use Rattle.reassembly.specs.Run.{Content}
-use Rattle.receiver.specs.Start.{startOf}
+use Rattle.state.specs.Start.{startOf}
 use Rattle.broadcast.specs.Drains.{note, unit}
 use Rattle.broadcast.specs.Example.{joined}
 use Rattle.broadcast.specs.Frames.{Damage}

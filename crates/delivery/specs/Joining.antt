@@ -18,7 +18,7 @@ use Rattle.reassembly.specs.declared.join.Joined.{Joined}
 use Rattle.reassembly.specs.declared.join.Piece.{Piece}
 use Rattle.reassembly.specs.Channel.{gap}
 use Rattle.reassembly.specs.Join.{joinOf, acted}
-use Rattle.reassembly.specs.Words.{
+use Rattle.words.specs.Channel.{
   phaseWord,
   readChannel,
   channelWords,

@@ -13,7 +13,7 @@ use Rattle.mmtp.specs.declared.unit.DataUnit.{DataUnit}
 use Rattle.mmtp.specs.declared.unit.Step.the-variants.{Unit as UnitAt, Malformed, End}
 use Rattle.reassembly.specs.declared.note.JoinNote.the-variants.{AboveLimit}
 use Rattle.reassembly.specs.Notes.{numberOf}
-use Rattle.reassembly.specs.Words.{readUnit}
+use Rattle.words.specs.Channel.{readUnit}
 use Rattle.delivery.specs.declared.event.Event.the-variants.{Nothing, Note, Unit}
 use Rattle.delivery.specs.Waiting.{Nothing as NoUnit, One, Many, Aggregate, Queue}
 use Rattle.delivery.specs.Packet.{wholeGiven}

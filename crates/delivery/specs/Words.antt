@@ -30,7 +30,7 @@ use Rattle.reassembly.specs.declared.channel.Channel.{Channel}
 use Rattle.reassembly.specs.declared.config.Config.{Config}
 use Rattle.reassembly.specs.declared.config.Rules.{Rules}
 use Rattle.reassembly.specs.declared.unit.Unit.{Unit}
-use Rattle.reassembly.specs.Words.{
+use Rattle.words.specs.Channel.{
   readUnit,
   unitWords,
   fieldWords,

@@ -28,10 +28,10 @@ use reassembly::config::Rules;
 use reassembly::join::Action;
 use reassembly::join::Joined;
 use reassembly::join::Piece;
-use reassembly::words::CHANNEL_WORDS;
-use reassembly::words::load_channel;
-use reassembly::words::store_channel;
-use reassembly::words::store_heard;
+use words::channel::CHANNEL_WORDS;
+use words::channel::load_channel;
+use words::channel::store_channel;
+use words::channel::store_heard;
 
 // An MMTP packet of a watched packet_id, and where it stands in packet memory.
 pub struct Located {

@@ -12,7 +12,7 @@ use crate::event::Memory;
 use crate::event::Place;
 use crate::packet::Located;
 use crate::packet::whole;
-use intake::words::flag;
+use words::cursor::flag;
 use mmtp::header::Psn;
 use mmtp::packet::Packet;
 use mmtp::payload::Indicator;
@@ -20,8 +20,8 @@ use mmtp::payload::Payload;
 use mmtp::unit::Step;
 use reassembly::note::JoinNote;
 use reassembly::note::number;
-use reassembly::words::load_unit;
-use reassembly::words::store_unit;
+use words::channel::load_unit;
+use words::channel::store_unit;
 
 // 0 the note's number, 1 whether 64 follows it, 2 the packet_id, 3 which units: none, one, those of an aggregate.
 // One: 4 to 13 what it carries, 14 to 16 its place.

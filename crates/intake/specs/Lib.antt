@@ -2,4 +2,3 @@
 pub mod Slot
 pub mod Early
 pub mod Examples
-pub mod Words

@@ -6,7 +6,7 @@ use mathlib.Core.Logic.{_⊎_, inl, inr}
 use mathlib.Core.List.{List}
 use native.Mathlib.Omega.{arith}
 use Rattle.reassembly.specs.declared.unit.Unit.{Unit}
-use Rattle.reassembly.specs.Words.{readUnit}
+use Rattle.words.specs.Channel.{readUnit}
 use Rattle.calls.specs.Record.{isUnitRecord}
 use Rattle.packer.specs.declared.pack.Packed.{Packed}
 use Rattle.packer.specs.declared.pack.Packed.the-variants.{Written, Refused as NotPacked}

@@ -5,7 +5,7 @@ use mathlib.Core.Bool.{true, false, cond}
 use mathlib.Core.List.{List}
 use Rattle.tmcc.specs.declared.layout.Pointers.{Pointers}
 use Rattle.reassembly.specs.declared.unit.Unit.{Unit}
-use Rattle.reassembly.specs.Words.{readUnit}
+use Rattle.words.specs.Channel.{readUnit}
 use Rattle.calls.specs.Record.{isUnitRecord}
 use Rattle.packer.specs.declared.pack.Packed.{Packed}
 use Rattle.packer.specs.declared.pack.Packed.the-variants.{Written, Refused as NotPacked}

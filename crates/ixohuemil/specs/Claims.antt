@@ -5,7 +5,7 @@ use mathlib.Core.Path.{_≡_}
 use mathlib.Core.Bool.{true}
 use mathlib.Core.Logic.{_⊎_}
 use mathlib.Core.List.{List}
-use Rattle.reassembly.specs.Words.{readUnit, SizedUnit}
+use Rattle.words.specs.Channel.{readUnit, SizedUnit}
 use Rattle.delivery.specs.declared.event.Given.{Given}
 use Rattle.packer.specs.declared.pack.Packed.the-variants.{Written}
 use Rattle.packer.specs.Packer.{packOf}

@@ -1,6 +1,6 @@
 // Next, many events for one call, and a copy of a unit's bytes.
 ghost use mathlib.Core.Path.{_≡_};
-ghost use Rattle.receiver.specs.Words.{stateIn};
+ghost use Rattle.state.specs.Words.{stateIn};
 ghost use Rattle.calls.specs.Events.{nextCall, eventsCall};
 ghost use Rattle.calls.specs.Show.{showCall};
 ghost use Rattle.calls.specs.Words.{NextDone, EventsDone};

@@ -5,7 +5,7 @@ use calls::record::CARRIED;
 use calls::record::is_unit;
 use packer::pack::Packed;
 use packer::pack::pack;
-use reassembly::words::load_unit;
+use words::channel::load_unit;
 
 // Packs the unit of an event, with these bytes, in pieces of at most `m`, the unit's psn in its first packet; answers 0, with the
 // bytes written in `len`. Refused, it answers 92 or 70 to 74 and writes nothing.

@@ -2,7 +2,7 @@
 ghost use mathlib.Core.Path.{_≡_};
 ghost use mathlib.Core.List.{[]};
 ghost use lib.ListN.{length};
-ghost use Rattle.receiver.specs.Words.{stateIn, Starts, Leaves};
+ghost use Rattle.state.specs.Words.{stateIn, Starts, Leaves};
 ghost use Rattle.receiver.specs.Frame.{frameOf, lostFrameOf};
 ghost use Rattle.receiver.specs.Slot.{slotOf, lostSlotOf};
 ghost use Rattle.calls.specs.Settings.{startBy};

@@ -2,7 +2,6 @@
 pub mod Notes
 pub mod Unit
 pub mod Channel
-pub mod Words
 pub mod Join
 pub mod Run
 pub mod Sent

@@ -4,4 +4,3 @@ pub mod config;
 pub mod join;
 pub mod note;
 pub mod unit;
-pub mod words;

@@ -17,8 +17,8 @@ use Rattle.delivery.specs.declared.event.Event.the-variants.{Nothing, Refused}
 use Rattle.delivery.specs.declared.event.Place.{Place}
 use Rattle.delivery.specs.Choice.{by-test}
 use Rattle.delivery.specs.Cursor.{left}
-use Rattle.receiver.specs.State.{State, Called, refused}
-use Rattle.receiver.specs.Start.{twice, startRefusal, startFrom}
+use Rattle.state.specs.State.{State, Called, refused}
+use Rattle.state.specs.Start.{twice, startRefusal, startFrom}
 use Rattle.receiver.specs.Frame.{frameBusy, frameOf, lostFrameOf}
 use Rattle.receiver.specs.Slot.{
   SlotOut,

@@ -21,7 +21,7 @@ use Rattle.delivery.specs.declared.cursor.Found.the-variants.{Event as AnEvent,
 use Rattle.delivery.specs.declared.cursor.Advanced.{Advanced}
 use Rattle.delivery.specs.Queue.{giveBy, manyBy, eventTaken}
 use Rattle.delivery.specs.Cursor.{tailAdvanced, advancedBy, slotAdvanced, advancedOf, turnBy, turnOf}
-use Rattle.receiver.specs.State.{State}
+use Rattle.state.specs.State.{State}
 use Rattle.receiver.specs.Next.{NextOut, onwards, readOn, past}
 
 abbrev pub Unrefused : Event → Type 0

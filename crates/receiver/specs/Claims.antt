@@ -9,8 +9,8 @@ use lib.ListN.{length, take, drop}
 use Rattle.reassembly.specs.declared.config.Config.{Config}
 use Rattle.delivery.specs.declared.event.Event.the-variants.{Refused}
 use Rattle.delivery.specs.declared.event.Place.{Place}
-use Rattle.receiver.specs.State.{State, Called}
-use Rattle.receiver.specs.Start.{startFrom}
+use Rattle.state.specs.State.{State, Called}
+use Rattle.state.specs.Start.{startFrom}
 use Rattle.receiver.specs.Frame.{frameOf, lostFrameOf}
 use Rattle.receiver.specs.Slot.{shortBy, slotOf, lostSlotOf}
 use Rattle.receiver.specs.Next.{nextOf}

@@ -11,8 +11,8 @@ use Rattle.wire.specs.Memory.{partOf}
 use Rattle.intake.specs.Slot.{holding, lostOf}
 use Rattle.delivery.specs.declared.event.Event.the-variants.{Refused}
 use Rattle.delivery.specs.declared.event.Memory.the-variants.{Packet, Collecting}
-use Rattle.receiver.specs.State.{State, withFrame, withOwed, withSlot, refused}
-use Rattle.receiver.specs.Start.{before, twiceBelow, twice, freshState, startRefusal}
+use Rattle.state.specs.State.{State, withFrame, withOwed, withSlot, refused}
+use Rattle.state.specs.Start.{before, twiceBelow, twice, freshState, startRefusal}
 use Rattle.receiver.specs.Frame.{frameBusy, frameOf, lossOf, lostFrameOf}
 use Rattle.receiver.specs.Slot.{shortBy, slotRefusal, wrongLength, slotOf, lostSlotOf}
 use Rattle.receiver.specs.Next.{answered, nextOf}

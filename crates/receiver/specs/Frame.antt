@@ -7,7 +7,7 @@ use borrow.Author.Tests.{lt-ltb, le-ltb, eq-eqb, ne-eqb, ltb-false}
 use lib.ListN.{length}
 use lib.Dec.{eqb, ltb}
 use Rattle.tmcc.specs.Block.{decodeOf}
-use Rattle.receiver.specs.State.{State, Called, withFrame, withOwed, withIntake, refused, accepted}
+use Rattle.state.specs.State.{State, Called, withFrame, withOwed, withIntake, refused, accepted}
 use Rattle.delivery.specs.Choice.{neither}
 use Rattle.intake.specs.Slot.{lostOf}
 

@@ -11,7 +11,7 @@ use Rattle.reassembly.specs.declared.config.Config.{Config}
 use Rattle.reassembly.specs.Channel.{unheard}
 use Rattle.delivery.specs.declared.event.Event.{Event as AnEvent}
 use Rattle.delivery.specs.declared.event.Event.the-variants.{Nothing, Refused}
-use Rattle.receiver.specs.State.{Answer, State, withOwed, withSlot, withQueue, withChannels}
+use Rattle.state.specs.State.{Answer, State, withOwed, withSlot, withQueue, withChannels}
 use Rattle.delivery.specs.declared.packet.Located.{Located}
 use Rattle.delivery.specs.declared.packet.Arrived.{Arrived}
 use Rattle.delivery.specs.declared.packet.Arrived.the-variants.{Silent, Noted, Good}

@@ -9,7 +9,7 @@ use lib.Seq.{set-getD}
 use Rattle.reassembly.specs.Channel.{unheard}
 use Rattle.delivery.specs.declared.event.Event.{Event as AnEvent}
 use Rattle.delivery.specs.declared.event.Event.the-variants.{Nothing}
-use Rattle.receiver.specs.State.{State, withOwed, withSlot, withQueue, withChannels}
+use Rattle.state.specs.State.{State, withOwed, withSlot, withQueue, withChannels}
 use Rattle.delivery.specs.declared.packet.Arrived.{Arrived}
 use Rattle.delivery.specs.declared.packet.Arrived.the-variants.{Silent, Noted, Good}
 use Rattle.delivery.specs.Waiting.{JoinedPacket, Turn}

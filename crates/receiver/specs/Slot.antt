@@ -11,8 +11,8 @@ use lib.ListN.{length, getD}
 use lib.Dec.{eqb, ltb, leb}
 use Rattle.tmcc.specs.declared.layout.Pointers.{Pointers}
 use Rattle.reassembly.specs.declared.config.Config.{Config}
-use Rattle.receiver.specs.State.{State, Called, withFrame, withOwed, withIntake, refused, accepted}
-use Rattle.receiver.specs.Tests.{passed}
+use Rattle.state.specs.State.{State, Called, withFrame, withOwed, withIntake, refused, accepted}
+use Rattle.state.specs.Tests.{passed}
 use Rattle.delivery.specs.Choice.{neither}
 use Rattle.intake.specs.Slot.{packetMemory, intakeOf}
 use Rattle.receiver.specs.Frame.{lossOf}

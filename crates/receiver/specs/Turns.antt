@@ -9,9 +9,9 @@ use lib.ListN.{length, getD, set}
 use Rattle.wire.specs.Words.{Put, flagOf}
 use Rattle.reassembly.specs.declared.config.Config.{Config}
 use Rattle.reassembly.specs.Channel.{unheard}
-use Rattle.reassembly.specs.Words.{readChannel}
+use Rattle.words.specs.Channel.{readChannel}
 use Rattle.intake.specs.Slot.{holding}
-use Rattle.intake.specs.Words.{heldWords, readCursor, cursor-same}
+use Rattle.words.specs.Cursor.{heldWords, readCursor, cursor-same}
 use Rattle.delivery.specs.declared.event.Event.{Event as AnEvent}
 use Rattle.delivery.specs.declared.event.Event.the-variants.{Nothing}
 use Rattle.delivery.specs.declared.cursor.Found.{Found}
@@ -21,12 +21,12 @@ use Rattle.delivery.specs.Packet.{arrivedAt, placeOf, receivedOf}
 use Rattle.delivery.specs.Queue.{eventTaken}
 use Rattle.delivery.specs.Cursor.{turnOf, advancedOf, isEvent, turn-event, turn-on, goesOn, left, turn-less}
 use Rattle.delivery.specs.Words.{readQueue, channelPlace, Takes, Receives}
-use Rattle.receiver.specs.State.{State, withOwed, withSlot, withQueue, withChannels}
-use Rattle.receiver.specs.Words.{stateIn, Moves}
+use Rattle.state.specs.State.{State, withOwed, withSlot, withQueue, withChannels}
+use Rattle.state.specs.Words.{stateIn, Moves}
 use Rattle.receiver.specs.Next.{answered, past, readAll}
 use Rattle.receiver.specs.ReadOn.{read-event, read-received, read-tail, read-done}
-use Rattle.receiver.specs.Lent.{kept-words, state-held, state-cursor, state-queue, state-owed, state-packet, packet-comes}
-use Rattle.receiver.specs.Lent.{cursor-in, queue-in}
+use Rattle.state.specs.Lent.{kept-words, state-held, state-cursor, state-queue, state-owed, state-packet, packet-comes}
+use Rattle.state.specs.Lent.{cursor-in, queue-in}
 
 abbrev pub turnIn : List ℕ → List ℕ → Turn
 turnIn t p = turnOf (stateIn t .queue) (stateIn t .cursor) p

@@ -3,20 +3,20 @@ ghost use mathlib.Core.Path.{_≡_};
 ghost use mathlib.Core.List.{[]};
 ghost use Prim.Native.Nat.{_≤_};
 ghost use lib.ListN.{length};
-ghost use Rattle.receiver.specs.State.{withIntake};
-ghost use Rattle.receiver.specs.Words.{stateWords, stateIn, Sets, Leaves};
+ghost use Rattle.state.specs.State.{withIntake};
+ghost use Rattle.state.specs.Words.{stateWords, stateIn, Sets, Leaves};
 ghost use Rattle.receiver.specs.Frame.{frameBusy, lossOf, frameOf, lostFrameOf};
-use crate::words::AT;
-use crate::words::CONFIG;
-use crate::words::CURSOR;
-use crate::words::HELD;
-use crate::words::OWED;
-use crate::words::STATE_WORDS;
-use crate::words::put_frame;
+use state::places::AT;
+use state::places::CONFIG;
+use state::places::CURSOR;
+use state::places::HELD;
+use state::places::OWED;
+use state::places::STATE_WORDS;
+use state::places::put_frame;
 use intake::held::Intake;
-use intake::words::load_held;
-use intake::words::store_cursor;
-use intake::words::store_held;
+use words::cursor::load_held;
+use words::cursor::store_cursor;
+use words::cursor::store_held;
 
 // Whether slots are due or next is owed.
 fn is_busy(words: &[u64]) -> bool

@@ -3,21 +3,21 @@ ghost use mathlib.Core.Path.{_≡_};
 ghost use mathlib.Core.List.{[]};
 ghost use Prim.Native.Nat.{_≤_, _<_};
 ghost use lib.ListN.{length};
-ghost use Rattle.receiver.specs.Words.{stateWords, stateIn, Sets, Leaves};
+ghost use Rattle.state.specs.Words.{stateWords, stateIn, Sets, Leaves};
 ghost use Rattle.receiver.specs.Slot.{shortBy, slotRefusal, counted, wrongLength, slotOf, lostSlotOf};
 use crate::frame::lose;
 use crate::frame::settle;
-use crate::words::AT;
-use crate::words::CONFIG;
-use crate::words::HELD;
-use crate::words::OWED;
-use crate::words::STATE_WORDS;
-use crate::words::is_own;
-use crate::words::length_at;
-use crate::words::pointers_at;
+use state::places::AT;
+use state::places::CONFIG;
+use state::places::HELD;
+use state::places::OWED;
+use state::places::STATE_WORDS;
+use state::places::is_own;
+use state::places::length_at;
+use state::places::pointers_at;
 use intake::slot::MAX_SLOT;
 use intake::slot::SLOT_AREA;
-use intake::words::load_held;
+use words::cursor::load_held;
 
 // Whether packet memory has fewer than 21,433 bytes, or collecting memory fewer than n × R.
 pub fn is_short(words: &[u64], packet: usize, collecting: usize) -> bool

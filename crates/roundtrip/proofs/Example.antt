@@ -14,7 +14,7 @@ use Rattle.tlv.specs.Packet.{goodFirst, total, complete, marked}
 use Rattle.mmtp.specs.declared.watch.Found.the-variants.{At}
 use Rattle.mmtp.specs.Watch.{lookupOf, firstFrom}
 use Rattle.reassembly.specs.declared.unit.Unit.{Unit}
-use Rattle.receiver.specs.Start.{before, twiceBelow, twice, startRefusal, startFrom}
+use Rattle.state.specs.Start.{before, twiceBelow, twice, startRefusal, startFrom}
 use Rattle.packer.specs.Pieces.{piecesBy, pieces, indicatorAt, counterAt, withPsn, pieceAt}
 use Rattle.packer.specs.Packet.{
   outerHead,

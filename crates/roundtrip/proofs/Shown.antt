@@ -47,7 +47,7 @@ use Rattle.broadcast.specs.Accepts.{GoodFrame}
 use Rattle.broadcast.specs.Broadcast.{repeated}
 use Rattle.broadcast.proofs.Accepts.{accepts}
 use Rattle.mmtp.specs.Watch.{lookupOf, firstFrom}
-use Rattle.receiver.specs.Start.{before, twiceBelow, twice, startRefusal, Starts, starts as start-keeps}
+use Rattle.state.specs.Start.{before, twiceBelow, twice, startRefusal, Starts, starts as start-keeps}
 use Rattle.roundtrip.specs.Sending.{allPackets, padded}
 use Rattle.roundtrip.specs.RoundTrip.{runOf}
 use Rattle.roundtrip.specs.Example.{config, units, gaps}

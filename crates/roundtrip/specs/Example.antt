@@ -9,7 +9,7 @@ use lib.ListN.{length, replicate}
 use Rattle.mmtp.specs.declared.unit.Fields.{Fields}
 use Rattle.mmtp.specs.Unit.{noFields}
 use Rattle.reassembly.specs.declared.config.Config.{Config}
-use Rattle.receiver.specs.Start.{startOf}
+use Rattle.state.specs.Start.{startOf}
 use Rattle.cutter.specs.Slot.{unlisted}
 use Rattle.roundtrip.specs.Sending.{Parcel, AllSendable, Consecutive, AllGaps}
 use Rattle.roundtrip.specs.RoundTrip.{runOf}

@@ -7,7 +7,7 @@ use mathlib.Core.List.{List, [], map}
 use lib.ListN.{length}
 use Rattle.tlv.specs.Run.{Slot}
 use Rattle.reassembly.specs.declared.config.Config.{Config}
-use Rattle.receiver.specs.Start.{startOf}
+use Rattle.state.specs.Start.{startOf}
 use Rattle.packer.specs.Packer.{joined}
 use Rattle.cutter.specs.Slot.{unlisted, slotAt, pointed, slotCut}
 use Rattle.cutter.specs.Claims.{slotsFrom}

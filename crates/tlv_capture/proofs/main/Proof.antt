@@ -4,7 +4,7 @@ use lib.ListN.{length}
 use borrow.Author.Needs.{needs}
 use native.Mathlib.Omega.{arith}
 use Rattle.intake.specs.Slot.{packetMemory}
-use Rattle.receiver.specs.Words.{stateWords}
+use Rattle.state.specs.Words.{stateWords}
 use Rattle.capture.specs.Command.{longestCommand}
 use Rattle.tlv_capture.proofs.main.Statement.{statement}
 use Rattle.tlv_capture.proofs.main.Tie as tie

@@ -2,7 +2,7 @@
 use mathlib.Core.Path.{refl, sym, _∙_}
 use native.Mathlib.Omega.{arith}
 use borrow.Author.Needs.{needs}
-use Rattle.receiver.specs.Clean.{exact-none}
+use Rattle.state.specs.Clean.{exact-none}
 use Rattle.calls.specs.Events.{events-few, events-short, events-done}
 use Rattle.calls.proofs.events.events.Statement.{statement}
 use Rattle.calls.proofs.events.events.Tie as tie

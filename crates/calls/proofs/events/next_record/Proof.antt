@@ -4,7 +4,7 @@ use mathlib.Core.Path.{_≡_, refl, sym, _∙_, ap}
 use mathlib.Core.List.{List}
 use native.Mathlib.Omega.{arith}
 use borrow.Author.Needs.{needs}
-use Rattle.receiver.specs.Clean.{exact-none}
+use Rattle.state.specs.Clean.{exact-none}
 use Rattle.calls.specs.Events.{refusalOf, refused-event, event-put, next-few, next-done, next-refused}
 use Rattle.calls.proofs.events.next_record.Statement.{statement}
 use Rattle.calls.proofs.events.next_record.Tie as tie

@@ -8,11 +8,11 @@ use borrow.Author.Needs.{needs}
 use borrow.Author.Tests.{not-true, not-false}
 use lib.ListN.{length}
 use Rattle.delivery.specs.declared.event.Event.the-variants.{Nothing}
-use Rattle.receiver.specs.Words.{stateWords, stateIn, Exact}
+use Rattle.state.specs.Words.{stateWords, stateIn, Exact}
 use Rattle.receiver.specs.Slot.{shortBy}
 use Rattle.receiver.specs.Next.{answered, nextOf, next-idle, next-reads, short-room}
 use Rattle.receiver.specs.ReadOn.{next-calm}
-use Rattle.receiver.specs.Clean.{exact-none, exact-on}
+use Rattle.state.specs.Clean.{exact-none, exact-on}
 use Rattle.calls.specs.Record.{recordWords}
 use mathlib.Core.Bool.{true, false}
 use Rattle.calls.specs.Events.{Many, isGiven, eventsOf, eventsLeft, event-put, gave, gave-start, gave-full, gave-none, gave-last, gave-on}

@@ -7,7 +7,7 @@ use native.Mathlib.Omega.{arith}
 use borrow.Author.Needs.{needs}
 use lib.ListN.{length-set, length-append, replicate}
 use Rattle.wire.specs.Words.{putFrom, stores, put-on}
-use Rattle.reassembly.specs.Words.{unitWords, length-unit}
+use Rattle.words.specs.Channel.{unitWords, length-unit}
 use Rattle.calls.specs.Record.{unitRecord, memoryWord}
 use Rattle.calls.proofs.record.put_unit.Statement.{statement}
 use Rattle.calls.proofs.record.put_unit.Tie as tie

@@ -4,9 +4,9 @@ use mathlib.Core.Path.{sym, _∙_, ap, subst}
 use native.Mathlib.Omega.{arith}
 use borrow.Author.Needs.{needs}
 use borrow.Author.Tests.{not-true, not-false}
-use Rattle.receiver.specs.Leaves.{leaves-short, leaves-refused}
-use Rattle.receiver.specs.State.{Called}
-use Rattle.receiver.specs.Words.{Starts}
+use Rattle.state.specs.Leaves.{leaves-short, leaves-refused}
+use Rattle.state.specs.State.{Called}
+use Rattle.state.specs.Words.{Starts}
 use Rattle.calls.specs.Settings.{start-by, start-not, settings-length}
 use Rattle.calls.proofs.settings.start_by.Statement.{statement}
 use Rattle.calls.proofs.settings.start_by.Tie as tie

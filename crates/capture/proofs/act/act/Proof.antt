@@ -4,7 +4,7 @@ use borrow.Author.Tests.{not-true, not-false}
 use Rattle.capture.specs.Command.{size-by}
 use Rattle.capture.specs.Steps.{acted-unknown, acted-accepted, acted-refused}
 use borrow.Author.Needs.{needs}
-use Rattle.receiver.specs.Clean.{exact-none}
+use Rattle.state.specs.Clean.{exact-none}
 use Rattle.capture.proofs.act.act.Statement.{statement}
 use Rattle.capture.proofs.act.act.Tie as tie
 

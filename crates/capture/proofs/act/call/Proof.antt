@@ -4,13 +4,13 @@ use mathlib.Core.Path.{refl, ap}
 use mathlib.Core.List.{List, []}
 use lib.ListN.{length}
 use Rattle.wire.specs.Memory.{slice-rest}
-use Rattle.receiver.specs.State.{Called}
-use Rattle.receiver.specs.Words.{stateWords, Leaves}
+use Rattle.state.specs.State.{Called}
+use Rattle.state.specs.Words.{stateWords, Leaves}
 use Rattle.capture.specs.Command.{slot-size-long}
 use Rattle.capture.specs.Capture.{callOf}
 use Rattle.capture.specs.Words.{Calls}
 use borrow.Author.Needs.{needs}
-use Rattle.receiver.specs.Clean.{exact-none}
+use Rattle.state.specs.Clean.{exact-none}
 use Rattle.capture.proofs.act.call.Statement.{statement}
 use Rattle.capture.proofs.act.call.Tie as tie
 

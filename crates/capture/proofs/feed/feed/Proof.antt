@@ -8,12 +8,12 @@ use borrow.Author.Needs.{needs}
 use borrow.Author.Tests.{leb-true}
 use lib.ListN.{length}
 use Rattle.lines.specs.Line.{longestLine}
-use Rattle.receiver.specs.Words.{stateWords, Exact}
+use Rattle.state.specs.Words.{stateWords, Exact}
 use Rattle.capture.specs.Command.{longestCommand}
 use Rattle.capture.specs.Session.{Session, sessionIn}
 use Rattle.capture.specs.Feed.{World, Keeps, goesBy, goes-room, goes-read, taken-by, source-some, turn-by}
 use Rattle.capture.specs.Feed.{fedFrom, fed-turn, fed-stops, fed-short, fed-long}
-use Rattle.receiver.specs.Clean.{exact-none, exact-on}
+use Rattle.state.specs.Clean.{exact-none, exact-on}
 use Rattle.capture.proofs.feed.feed.Statement.{statement}
 use Rattle.capture.proofs.feed.feed.Tie as tie
 

@@ -2,7 +2,7 @@
 use mathlib.Core.Path.{refl, sym, _∙_}
 use Rattle.capture.specs.Feed.{ran-part, ran-whole}
 use borrow.Author.Needs.{needs}
-use Rattle.receiver.specs.Clean.{exact-none, exact-on}
+use Rattle.state.specs.Clean.{exact-none, exact-on}
 use Rattle.capture.proofs.feed.run.Statement.{statement}
 use Rattle.capture.proofs.feed.run.Tie as tie
 

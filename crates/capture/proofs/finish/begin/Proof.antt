@@ -3,7 +3,7 @@ use mathlib.Core.Path.{refl}
 use native.Mathlib.Omega.{arith}
 use Rattle.capture.specs.Session.{freshSession}
 use borrow.Author.Needs.{needs}
-use Rattle.receiver.specs.Clean.{exact-none}
+use Rattle.state.specs.Clean.{exact-none}
 use Rattle.capture.proofs.finish.begin.Statement.{statement}
 use Rattle.capture.proofs.finish.begin.Tie as tie
 

@@ -7,7 +7,7 @@ use borrow.Author.Needs.{needs}
 use borrow.Author.Tests.{not-true, not-false, leb-true}
 use lib.ListN.{length}
 use Rattle.receiver.specs.Next.{short-room}
-use Rattle.receiver.specs.Words.{stateWords, stateIn, Exact}
+use Rattle.state.specs.Words.{stateWords, stateIn, Exact}
 use Rattle.capture.specs.Session.{sessionIn}
 use Rattle.capture.specs.Words.{closed-in}
 use Rattle.capture.specs.declared.session.Session.{Session}
@@ -15,7 +15,7 @@ use Rattle.capture.specs.declared.session.Tally.{Tally}
 use Rattle.capture.specs.Waits.{waits}
 use Rattle.capture.specs.Steps.{roomy, Drains, pouredOf, pour-line, pour-last, pour-full}
 use Rattle.capture.specs.Steps.{drains-config, drains-paid, drains-on, drains-falls}
-use Rattle.receiver.specs.Clean.{exact-none, exact-on}
+use Rattle.state.specs.Clean.{exact-none, exact-on}
 use Rattle.capture.proofs.pour.drain.Statement.{statement}
 use Rattle.capture.proofs.pour.drain.Tie as tie
 

@@ -6,14 +6,14 @@ use native.Mathlib.Omega.{arith}
 use lib.ListN.{length}
 use borrow.Author.Tests.{not-true, not-false, leb-true}
 use Rattle.lines.specs.Line.{longestLine}
-use Rattle.receiver.specs.Words.{stateWords, Exact}
+use Rattle.state.specs.Words.{stateWords, Exact}
 use Rattle.capture.specs.declared.session.Session.{Session}
 use Rattle.capture.specs.declared.session.Progress.{Progress}
 use Rattle.capture.specs.Session.{progressIn}
 use Rattle.capture.specs.Words.{PoursOr}
 use Rattle.capture.specs.Steps.{Poured, pour-idle, pour-full, pour-short}
 use borrow.Author.Needs.{needs}
-use Rattle.receiver.specs.Clean.{exact-none}
+use Rattle.state.specs.Clean.{exact-none}
 use Rattle.capture.proofs.pour.pour.Statement.{statement}
 use Rattle.capture.proofs.pour.pour.Tie as tie
 

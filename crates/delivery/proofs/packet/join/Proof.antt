@@ -4,7 +4,7 @@ use Prim.Native.Nat.{_+_, _*_, _<_, _≤_}
 use mathlib.Core.Path.{_≡_}
 use native.Mathlib.Omega.{arith}
 use lib.ListN.{length}
-use Rattle.reassembly.specs.Words.{readChannel}
+use Rattle.words.specs.Channel.{readChannel}
 use Rattle.delivery.specs.Within.{part-reach, joined-reach, first-inside, joined-room}
 use Rattle.delivery.specs.Packet.{bytesAt, unitIn, stepOf}
 use Rattle.delivery.specs.Words.{channelPlace}

@@ -6,7 +6,7 @@ use native.Mathlib.Nat.{add-zero}
 use native.Mathlib.Omega.{arith}
 use lib.ListN.{length, set, length-set}
 use Rattle.wire.specs.Words.{putFrom, stores, put-on}
-use Rattle.reassembly.specs.Words.{unitWords, length-unit}
+use Rattle.words.specs.Channel.{unitWords, length-unit}
 use Rattle.delivery.specs.Words.{giveWords, memoryWord}
 use borrow.Author.Needs.{needs}
 use Rattle.delivery.proofs.queue.put_one.Statement.{statement}

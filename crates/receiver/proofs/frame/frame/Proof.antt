@@ -2,10 +2,10 @@
 use mathlib.Core.List.{[]}
 use mathlib.Core.Path.{refl, sym, _∙_, ap}
 use Rattle.tmcc.specs.Block.{decodeOf}
-use Rattle.receiver.specs.Lent.{stream-in}
-use Rattle.receiver.specs.Leaves.{leaves-short, leaves-refused, leaves-accepted}
+use Rattle.state.specs.Lent.{stream-in}
+use Rattle.state.specs.Leaves.{leaves-short, leaves-refused, leaves-accepted}
 use Rattle.receiver.specs.Frame.{frame-short, frame-busy, frame-refused, frame-accepted}
-use Rattle.receiver.specs.State.{Called}
+use Rattle.state.specs.State.{Called}
 use borrow.Author.Needs.{needs}
 use Rattle.receiver.proofs.frame.frame.Statement.{statement}
 use Rattle.receiver.proofs.frame.frame.Tie as tie

@@ -2,7 +2,7 @@
 use mathlib.Core.Path.{sym}
 use Rattle.wire.specs.Words.{flagOf}
 use Rattle.receiver.specs.Frame.{slots-due, none-due}
-use Rattle.receiver.specs.Words.{stateIn}
+use Rattle.state.specs.Words.{stateIn}
 use borrow.Author.Needs.{needs}
 use Rattle.receiver.proofs.frame.is_busy.Statement.{statement}
 use Rattle.receiver.proofs.frame.is_busy.Tie as tie

@@ -4,12 +4,12 @@ use mathlib.Core.Path.{_∙_, ap}
 use native.Mathlib.Omega.{arith}
 use lib.ListN.{length-set}
 use Rattle.wire.specs.Words.{flagOf}
-use Rattle.receiver.specs.Lent.{state-owed}
+use Rattle.state.specs.Lent.{state-owed}
 use Rattle.receiver.specs.Frame.{lossOf}
-use Rattle.receiver.specs.Words.{stateIn}
-use Rattle.receiver.specs.State.{State, withOwed}
+use Rattle.state.specs.Words.{stateIn}
+use Rattle.state.specs.State.{State, withOwed}
 use borrow.Author.Needs.{needs}
-use Rattle.receiver.specs.Clean.{exact-on, exact-owed}
+use Rattle.state.specs.Clean.{exact-on, exact-owed}
 use Rattle.receiver.proofs.frame.lose.Statement.{statement}
 use Rattle.receiver.proofs.frame.lose.Tie as tie
 

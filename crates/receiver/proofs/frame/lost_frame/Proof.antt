@@ -1,9 +1,9 @@
 -- Why lost_frame meets its contract: each return is one case of the definition.
 use mathlib.Core.List.{[]}
 use mathlib.Core.Path.{refl, sym, _∙_, ap}
-use Rattle.receiver.specs.Leaves.{leaves-short, leaves-refused, leaves-accepted}
+use Rattle.state.specs.Leaves.{leaves-short, leaves-refused, leaves-accepted}
 use Rattle.receiver.specs.Frame.{lost-frame-busy, lost-frame-accepted}
-use Rattle.receiver.specs.State.{Called}
+use Rattle.state.specs.State.{Called}
 use borrow.Author.Needs.{needs}
 use Rattle.receiver.proofs.frame.lost_frame.Statement.{statement}
 use Rattle.receiver.proofs.frame.lost_frame.Tie as tie

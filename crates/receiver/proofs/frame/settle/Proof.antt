@@ -1,5 +1,5 @@
 -- Why settle meets its contract: the held bytes and the cursor are stored.
-use Rattle.receiver.specs.Leaves.{state-intake}
+use Rattle.state.specs.Leaves.{state-intake}
 use borrow.Author.Needs.{needs}
 use Rattle.receiver.proofs.frame.settle.Statement.{statement}
 use Rattle.receiver.proofs.frame.settle.Tie as tie

@@ -1,8 +1,8 @@
 -- Why advance_in meets its contract: the cursor is read, moved and stored.
 use Rattle.wire.specs.Words.{put-within}
-use Rattle.intake.specs.Words.{cursor-put}
+use Rattle.words.specs.Cursor.{cursor-put}
 use borrow.Author.Needs.{needs}
-use Rattle.receiver.specs.Clean.{exact-cursor}
+use Rattle.state.specs.Clean.{exact-cursor}
 use Rattle.receiver.proofs.next.advance_in.Statement.{statement}
 use Rattle.receiver.proofs.next.advance_in.Tie as tie
 

@@ -6,10 +6,10 @@ use native.Mathlib.Omega.{arith}
 use Rattle.delivery.specs.Cursor.{left}
 use Rattle.delivery.specs.declared.event.Event.the-variants.{Refused}
 use Rattle.delivery.specs.declared.event.Event.{Event}
-use Rattle.receiver.specs.Lent.{owed-on, owed-off, config-in}
-use Rattle.receiver.specs.Leaves.{answers-short, answers-kept}
+use Rattle.state.specs.Lent.{owed-on, owed-off, config-in}
+use Rattle.state.specs.Leaves.{answers-short, answers-kept}
 use Rattle.receiver.specs.Next.{NextOut, readAll, next-short, next-idle, next-reads, short-room}
-use Rattle.receiver.specs.State.{State}
+use Rattle.state.specs.State.{State}
 use borrow.Author.Needs.{needs}
 use Rattle.receiver.proofs.Unrefused.{Unrefused, read-unrefused}
 use Rattle.receiver.proofs.next.next.Statement.{statement}

@@ -8,11 +8,11 @@ use Rattle.delivery.specs.declared.cursor.Found.{Found}
 use Rattle.delivery.specs.Cursor.{left}
 use Rattle.receiver.specs.Turns.{Turned, turned-event, turned-on, turned-less, turned-config}
 use Rattle.receiver.specs.Turns.{reads-event, reads-packet, reads-tail, reads-done}
-use Rattle.receiver.specs.Lent.{state-held, state-packet, placed-low}
-use Rattle.receiver.specs.Clean.{exact-none, exact-on, exact-held, exact-queue, exact-owed, exact-packet}
+use Rattle.state.specs.Lent.{state-held, state-packet, placed-low}
+use Rattle.state.specs.Clean.{exact-none, exact-on, exact-held, exact-queue, exact-owed, exact-packet}
 use Rattle.receiver.specs.Next.{readAll}
-use Rattle.receiver.specs.Words.{stateIn, Exact}
-use Rattle.receiver.specs.State.{State}
+use Rattle.state.specs.Words.{stateIn, Exact}
+use Rattle.state.specs.State.{State}
 use borrow.Author.Needs.{needs}
 use Rattle.receiver.proofs.next.read_on.Statement.{statement}
 use Rattle.receiver.proofs.next.read_on.Tie as tie

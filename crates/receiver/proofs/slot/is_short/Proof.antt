@@ -2,9 +2,9 @@
 use mathlib.Core.Path.{sym}
 use native.Mathlib.Omega.{arith}
 use native.Mathlib.Nat.{mul-zero}
-use Rattle.reassembly.specs.Words.{readConfig}
+use Rattle.words.specs.Channel.{readConfig}
 use Rattle.receiver.specs.Slot.{packet-short, long-enough, short-by-quotient}
-use Rattle.receiver.specs.Words.{stateIn}
+use Rattle.state.specs.Words.{stateIn}
 use borrow.Author.Needs.{needs}
 use Rattle.receiver.proofs.slot.is_short.Statement.{statement}
 use Rattle.receiver.proofs.slot.is_short.Tie as tie

@@ -5,11 +5,11 @@ use mathlib.Core.List.{[]}
 use lib.ListN.{length}
 use borrow.Author.Tests.{not-true, not-false}
 use Rattle.receiver.specs.Slot.{slotRefusal, Ready, lost-refused, lost-not-own, lost-own, ready}
-use Rattle.receiver.specs.Words.{stateWords, stateIn}
-use Rattle.receiver.specs.Lent.{due-first, due-own}
-use Rattle.receiver.specs.Leaves.{sets-on, leaves-short, leaves-refused, leaves-accepted}
+use Rattle.state.specs.Words.{stateWords, stateIn}
+use Rattle.receiver.specs.Due.{due-first, due-own}
+use Rattle.state.specs.Leaves.{sets-on, leaves-short, leaves-refused, leaves-accepted}
 use Rattle.receiver.specs.Frame.{lossOf}
-use Rattle.receiver.specs.State.{Called}
+use Rattle.state.specs.State.{Called}
 use borrow.Author.Needs.{needs}
 use Rattle.receiver.proofs.slot.lost_slot.Statement.{statement}
 use Rattle.receiver.proofs.slot.lost_slot.Tie as tie

@@ -1,8 +1,8 @@
 -- Why refusal meets its contract: the tests, in their order.
 use mathlib.Core.Path.{sym, _∙_}
-use Rattle.receiver.specs.Lent.{owed-on, owed-off}
+use Rattle.state.specs.Lent.{owed-on, owed-off}
 use Rattle.receiver.specs.Slot.{refused-none-due, refused-owed, refused-short, refused-none}
-use Rattle.receiver.specs.Words.{stateIn}
+use Rattle.state.specs.Words.{stateIn}
 use borrow.Author.Needs.{needs}
 use Rattle.receiver.proofs.slot.refusal.Statement.{statement}
 use Rattle.receiver.proofs.slot.refusal.Tie as tie

@@ -5,12 +5,12 @@ use mathlib.Core.Path.{_≡_, refl, sym, _∙_}
 use native.Mathlib.Omega.{arith}
 use lib.ListN.{length}
 use borrow.Author.Tests.{not-true, not-false}
-use Rattle.receiver.specs.Leaves.{sets-on, leaves-short, leaves-refused, leaves-accepted}
-use Rattle.receiver.specs.Lent.{due-first, due-wrong, due-own, due-pointers, slot-settled}
+use Rattle.state.specs.Leaves.{sets-on, leaves-short, leaves-refused, leaves-accepted}
+use Rattle.receiver.specs.Due.{due-first, due-wrong, due-own, due-pointers, slot-settled}
 use Rattle.receiver.specs.Slot.{slotRefusal, dueLength, wrongLength, Ready, ready, right-length}
 use Rattle.receiver.specs.Slot.{slot-refused, slot-wrong-length, slot-not-own}
-use Rattle.receiver.specs.Words.{stateWords, stateIn}
-use Rattle.receiver.specs.State.{State, withIntake}
+use Rattle.state.specs.Words.{stateWords, stateIn}
+use Rattle.state.specs.State.{State, withIntake}
 use borrow.Author.Needs.{needs}
 use Rattle.receiver.proofs.slot.slot.Statement.{statement}
 use Rattle.receiver.proofs.slot.slot.Tie as tie

@@ -1,0 +1,8 @@
+-- The state as a record, its words, and start.
+pub mod Tests
+pub mod State
+pub mod Words
+pub mod Start
+pub mod Lent
+pub mod Clean
+pub mod Leaves

@@ -1,0 +1,3 @@
+-- How a part of the state stands in words, and that what is written is read back.
+pub mod Channel
+pub mod Cursor

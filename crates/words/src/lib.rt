@@ -1,0 +1,3 @@
+// Parts of the receiver's state in words: what start was given, the state of a packet_id, what is held, the cursor.
+pub mod channel;
+pub mod cursor;
