@@ -2,7 +2,3 @@
 pub mod Lines
 pub mod Pours
 pub mod Texts
-pub mod Feeds
-pub mod Playing
-pub mod Progress
-pub mod Whole

@@ -8,9 +8,6 @@ pub mod Capture
 pub mod Words
 pub mod Drains
 pub mod Steps
-pub mod Feed
 pub mod Examples
 pub mod Worked
 pub mod Claims
-pub mod Plays
-pub mod Progress

@@ -9,7 +9,6 @@ use Rattle.capture.specs.declared.session.Phase.the-variants.{Before, Re
 use Rattle.capture.specs.declared.session.Tally.{Tally}
 use Rattle.capture.specs.declared.session.Session.{Session as Values}
 use Rattle.capture.specs.declared.session.Progress.{Progress as ValuesProgress}
-use Rattle.capture.specs.declared.feed.Fed.{Fed as ValuesFed}
 use Rattle.state.specs.Words.{stateIn}
 
 pub record Session : Type 0 where
@@ -22,25 +21,12 @@ pub record Progress : Type 0 where
   pub session : Session
   pub at : ℕ
 
--- what a block leaves
-pub record Fed : Type 0 where
-  pub session : Session
-  -- how many bytes of a command that is not whole yet stand in the command memory
-  pub held : ℕ
-  -- how many bytes of the block were read
-  pub read : ℕ
-  -- how many bytes of text were written
-  pub written : ℕ
-
 -- with the receiver's state, which the state memory t has
 abbrev pub sessionIn : Values → List ℕ → Session
 sessionIn s t = record { phase = s .phase; state = stateIn t; tally = s .tally }
 
 abbrev pub progressIn : ValuesProgress → List ℕ → Progress
 progressIn r t = record { session = sessionIn (r .session) t; at = r .at }
-
-abbrev pub fedIn : ValuesFed → List ℕ → Fed
-fedIn r t = record { session = sessionIn (r .session) t; held = r .held; read = r .read; written = r .written }
 
 -- the end of a session, beside the state memory
 abbrev pub ended : Values → Values

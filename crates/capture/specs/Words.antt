@@ -10,8 +10,7 @@ use Rattle.state.specs.State.{State, Called, withOwed}
 use Rattle.state.specs.Words.{stateWords, stateIn, Clean, Exact}
 use Rattle.capture.specs.declared.session.Session.{Session as Values}
 use Rattle.capture.specs.declared.session.Progress.{Progress as ValuesProgress}
-use Rattle.capture.specs.declared.feed.Fed.{Fed as ValuesFed}
-use Rattle.capture.specs.Session.{Progress, Fed, sessionIn, progressIn, fedIn, ended, freshValues, freshSession}
+use Rattle.capture.specs.Session.{Progress, sessionIn, progressIn, ended, freshValues, freshSession}
 use Rattle.capture.specs.Capture.{closed}
 
 -- the session after an event that is no line, beside the state memory
@@ -34,22 +33,11 @@ pub record Acts (before : List ℕ) (r : ValuesProgress) (after q o : List ℕ) 
 abbrev pub Pours : List ℕ → ValuesProgress → List ℕ → List ℕ → List ℕ → Progress × List ℕ × List ℕ → Type 0
 Pours = Acts
 
-pub record Runs (before : List ℕ) (r : ValuesProgress) (after q d o : List ℕ) (x : Progress × List ℕ × List ℕ × List ℕ) : Type 0 where
-  pub answer : (progressIn r after, q, d, o) ≡ x
-  pub exact : Exact before after
-
 -- a state memory that is too short: nothing is done
 pub record PoursOr (s : Values) (at : ℕ) (before c out : List ℕ) (r : ValuesProgress) (after d o : List ℕ)
     (x : Progress × List ℕ × List ℕ) : Type 0 where
   pub short : length before < stateWords → (r ≡ record { session = s; at = at }) × (after ≡ before) × (d ≡ c) × (o ≡ out)
   pub long : stateWords ≤ length before → (progressIn r after, d, o) ≡ x
-  pub exact : Exact before after
-
-pub record Feeds (s : Values) (held : ℕ) (before command p c out : List ℕ) (r : ValuesFed) (after k q d o : List ℕ)
-    (x : Fed × List ℕ × List ℕ × List ℕ × List ℕ) : Type 0 where
-  pub short : length before < stateWords
-      → (r ≡ record { session = s; held = held; read = 0; written = 0 }) × (after ≡ before) × (k ≡ command) × (q ≡ p) × (d ≡ c) × (o ≡ out)
-  pub long : stateWords ≤ length before → (fedIn r after, k, q, d, o) ≡ x
   pub exact : Exact before after
 
 pub record Begins (before : List ℕ) (r : Values) (after : List ℕ) : Type 0 where

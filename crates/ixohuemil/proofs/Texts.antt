@@ -12,9 +12,9 @@ use Rattle.lines.specs.Line.{longestLine, end-67}
 use Rattle.capture.specs.Command.{longestCommand}
 use Rattle.capture.specs.Capture.{lastLine, captureOf}
 use Rattle.capture.specs.Steps.{roomy, finish-full, finish-line}
-use Rattle.capture.specs.Feed.{FeedLeaves}
-use Rattle.capture.specs.Plays.{fed, first, AtOnce}
-use Rattle.capture.proofs.Whole.{whole-claim}
+use Rattle.feeding.specs.Feed.{FeedLeaves}
+use Rattle.feeding.specs.Plays.{fed, first, AtOnce}
+use Rattle.feeding.proofs.Whole.{whole-claim}
 use Rattle.ixohuemil.specs.Text.{textCall, TextBegins, finishedBy}
 use Rattle.ixohuemil.specs.Claims.{TextCallClaim}
 

@@ -8,7 +8,7 @@ use Rattle.lines.specs.Text.{wrote}
 use Rattle.capture.specs.Command.{longestCommand}
 use Rattle.capture.specs.Session.{freshSession}
 use Rattle.capture.specs.Steps.{finishedOf}
-use Rattle.capture.specs.Feed.{FeedLeaves, fedOf}
+use Rattle.feeding.specs.Feed.{FeedLeaves, fedOf}
 
 -- how many bytes of text, both memories, and the memory of the text
 abbrev pub TextLeaves : Type 0

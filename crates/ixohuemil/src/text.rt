@@ -1,7 +1,7 @@
 // A whole capture in memory, and the lines that it comes to.
 ghost use mathlib.Core.Path.{_≡_};
 ghost use Rattle.ixohuemil.specs.Text.{textCall};
-use capture::feed::feed;
+use feeding::feed::feed;
 use capture::finish::begin;
 use capture::finish::finish;
 

@@ -6,12 +6,13 @@ use mathlib.Core.Bool.{Bool, true, false, cond, _&&_, _||_, not}
 use mathlib.Core.List.{List}
 use lib.Dec.{eqb, ltb}
 use Rattle.wire.specs.Memory.{partOf}
-use Rattle.capture.specs.declared.feed.Fed.{Fed}
+use Rattle.feeding.specs.declared.feed.Fed.{Fed}
 use Rattle.capture.specs.declared.session.Progress.{Progress}
 use Rattle.capture.specs.declared.session.Session.{Session}
 use Rattle.capture.specs.Session.{isEnded, sessionIn}
-use Rattle.capture.specs.Words.{Feeds, PoursOr}
-use Rattle.capture.specs.Feed.{fedOf}
+use Rattle.capture.specs.Words.{PoursOr}
+use Rattle.feeding.specs.Fed.{Feeds}
+use Rattle.feeding.specs.Feed.{fedOf}
 use Rattle.capture.specs.Steps.{pouredOf}
 use Rattle.tlv_capture.specs.declared.pump.Pumped.{Pumped}
 

@@ -2,8 +2,8 @@
 ghost use mathlib.Core.Path.{_≡_};
 ghost use lib.ListN.{length};
 ghost use Rattle.tlv_capture.specs.Pump.{freshPump, wantsOf, filledOf, Refilled, anyOf, FedOn, PouredOn, toldOf, goesOn};
-use capture::feed::feed;
-use capture::feed::is_ended;
+use feeding::feed::feed;
+use feeding::feed::is_ended;
 use capture::pour::pour;
 use capture::session::Session;
 use libc::STDIN_FILENO;

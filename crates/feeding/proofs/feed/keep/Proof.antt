@@ -1,10 +1,10 @@
 -- Why `keep` meets its contract: by the length of the command that they begin.
 use mathlib.Core.Path.{sym}
 use lib.Seq.{length-take-le}
-use Rattle.capture.specs.Feed.{kept-past, kept-all, kept-none, keeps-all, keeps-none}
+use Rattle.feeding.specs.Feed.{kept-past, kept-all, kept-none, keeps-all, keeps-none}
 use borrow.Author.Needs.{needs}
-use Rattle.capture.proofs.feed.keep.Statement.{statement}
-use Rattle.capture.proofs.feed.keep.Tie as tie
+use Rattle.feeding.proofs.feed.keep.Statement.{statement}
+use Rattle.feeding.proofs.feed.keep.Tie as tie
 
 returns : tie.Need-returns
 returns c = (sym (kept-past _ _ (c .if1 .taken)), keeps-none _)

@@ -2,9 +2,9 @@
 use mathlib.Core.Path.{sym, _∙_}
 use borrow.Author.Needs.{needs}
 use Rattle.wire.specs.Memory.{slice-rest}
-use Rattle.capture.specs.Feed.{taken-whole, taken-held, taken-part}
-use Rattle.capture.proofs.feed.take_bytes.Statement.{statement}
-use Rattle.capture.proofs.feed.take_bytes.Tie as tie
+use Rattle.feeding.specs.Feed.{taken-whole, taken-held, taken-part}
+use Rattle.feeding.proofs.feed.take_bytes.Statement.{statement}
+use Rattle.feeding.proofs.feed.take_bytes.Tie as tie
 
 returns : tie.Need-returns
 returns c =

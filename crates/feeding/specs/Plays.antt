@@ -6,11 +6,11 @@ use mathlib.Core.Bool.{true, false}
 use mathlib.Core.List.{List, [], _++_}
 use lib.ListN.{length, take, drop}
 use Rattle.lines.specs.Text.{wrote}
 use Rattle.capture.specs.Command.{longestCommand}
 use Rattle.capture.specs.Session.{Session, busy, isEnded, freshSession}
 use Rattle.capture.specs.Capture.{lastLine, captureOf}
 use Rattle.capture.specs.Steps.{Poured, roomy, pouredOf}
-use Rattle.capture.specs.Feed.{FeedLeaves, fedOf}
+use Rattle.feeding.specs.Feed.{FeedLeaves, fedOf}
 
 -- what the calls hand on
 pub record Player : Type 0 where

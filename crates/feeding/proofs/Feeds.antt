@@ -11,25 +11,25 @@ use lib.Seq.{take-paste, take-at, drop-at, drop-drop, length-take-le}
 use lib.Dec.{eqb, ltb}
 use Rattle.wire.specs.Memory.{pasted, length-pasted}
 use Rattle.delivery.specs.Choice.{by-test}
 use Rattle.capture.specs.declared.command.Letter.{Letter}
 use Rattle.capture.specs.declared.command.Letter.the-variants.{Start, Frame, LostFrame, Slot, LostSlot, Unknown}
 use Rattle.capture.specs.declared.session.Phase.{Phase}
 use Rattle.capture.specs.declared.session.Phase.the-variants.{Before, Reading, Ended}
 use Rattle.capture.specs.Session.{Session, busy, isReading, isEnded, inPhase, withState}
 use Rattle.lines.specs.Line.{longestLine, refusedLine, field-21}
 use Rattle.lines.specs.Text.{wrote, wrote-none, wrote-end, length-wrote, wrote-append}
 use Rattle.capture.specs.Command.{longestCommand, letterOf, sizeOf, whole, size-by, slot-size-within, size-kept, size-grows, size-most}
 use Rattle.capture.specs.Command.{size-none}
 use Rattle.capture.specs.Capture.{Done, fits, callOf, afterCall, settled, doneOf, lastLine, textOf}
 use Rattle.capture.specs.Steps.{roomy, actedOf, pouredOf}
-use Rattle.capture.specs.Feed.{World, heldOf, wantedOf, keptOf, Keeps, wholeSize, gatheredOf, bytesTaken, sourceOf, ranOf}
-use Rattle.capture.specs.Feed.{goesBy, goes, turnOf, fedBy, fedFrom, keeps-all, keeps-none, wanted-first, wanted-rest}
-use Rattle.capture.specs.Feed.{kept-all, kept-none, ran-part, ran-whole, goes-read, whole-front, taken-whole, taken-held}
-use Rattle.capture.specs.Feed.{taken-part, source-block, source-gathered, turn-by}
-use Rattle.capture.specs.Claims.{Right, ahead, Feeds, FeedClaim}
+use Rattle.feeding.specs.Feed.{World, heldOf, wantedOf, keptOf, Keeps, wholeSize, gatheredOf, bytesTaken, sourceOf, ranOf}
+use Rattle.feeding.specs.Feed.{goesBy, goes, turnOf, fedBy, fedFrom, keeps-all, keeps-none, wanted-first, wanted-rest}
+use Rattle.feeding.specs.Feed.{kept-all, kept-none, ran-part, ran-whole, goes-read, whole-front, taken-whole, taken-held}
+use Rattle.feeding.specs.Feed.{taken-part, source-block, source-gathered, turn-by}
+use Rattle.feeding.specs.Claims.{Right, ahead, Feeds, FeedClaim}
 use Rattle.capture.specs.Drains.{drain-idle}
 use Rattle.capture.proofs.Pours.{pour-claim}
 use Rattle.capture.proofs.Texts.{size-whole, text-step, text-behind}
 
 right-keeps : (block : List ℕ) (w : World) → Right block w → Keeps (w .command) (w .held)
 right-keeps block w r = go (eqb (w .held) 0) refl

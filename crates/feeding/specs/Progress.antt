@@ -7,11 +7,11 @@ use mathlib.Core.List.{List}
 use mathlib.Core.Logic.{_⊎_}
 use lib.ListN.{length}
 use Rattle.lines.specs.Line.{longestLine}
 use Rattle.capture.specs.Command.{longestCommand}
 use Rattle.capture.specs.Session.{Session, busy, isEnded}
 use Rattle.capture.specs.Waits.{waits}
 use Rattle.capture.specs.Steps.{Poured, pouredOf}
-use Rattle.capture.specs.Feed.{fedOf}
+use Rattle.feeding.specs.Feed.{fedOf}
 
 -- feed reads at least one byte of a block that is not empty, unless there is no room for a line, the command memory or the state memory
 -- is too short, next is owed, or the session has ended

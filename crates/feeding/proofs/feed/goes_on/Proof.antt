@@ -1,10 +1,10 @@
 -- Why `goes_on` meets its contract: test by test.
 use mathlib.Core.Path.{sym, _∙_}
-use Rattle.capture.specs.Feed.{goesBy}
+use Rattle.feeding.specs.Feed.{goesBy}
 use borrow.Author.Tests.{lt-ltb, le-ltb, not-true, not-false}
 use borrow.Author.Needs.{needs}
-use Rattle.capture.proofs.feed.goes_on.Statement.{statement}
-use Rattle.capture.proofs.feed.goes_on.Tie as tie
+use Rattle.feeding.proofs.feed.goes_on.Statement.{statement}
+use Rattle.feeding.proofs.feed.goes_on.Tie as tie
 
 returns : tie.Need-returns
 unfolding goesBy

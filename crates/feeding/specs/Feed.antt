@@ -12,10 +12,11 @@ use lib.Dec.{eqb, ltb}
 use Rattle.wire.specs.Memory.{pasted, length-pasted}
 use Rattle.delivery.specs.Choice.{by-test}
 use Rattle.delivery.specs.Within.{pasted-take}
-use Rattle.capture.specs.Session.{Fed, Progress, Session, busy, isEnded}
-use Rattle.capture.specs.declared.feed.Turn.{Turn}
+use Rattle.capture.specs.Session.{Progress, Session, busy, isEnded}
+use Rattle.feeding.specs.Fed.{Fed}
+use Rattle.feeding.specs.declared.feed.Turn.{Turn}
 use Rattle.capture.specs.Command.{longestCommand, sizeOf, size-none, size-grows, size-kept, front-whole}
 use Rattle.capture.specs.Steps.{roomy, actedOf, pouredOf}
 
 -- the bytes of a command that is not whole yet
 abbrev pub heldOf : List ℕ → ℕ → List ℕ

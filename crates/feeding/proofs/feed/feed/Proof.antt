@@ -9,13 +9,13 @@ use borrow.Author.Tests.{leb-true}
 use lib.ListN.{length}
 use Rattle.lines.specs.Line.{longestLine}
 use Rattle.state.specs.Words.{stateWords, Exact}
 use Rattle.capture.specs.Command.{longestCommand}
 use Rattle.capture.specs.Session.{Session, sessionIn}
-use Rattle.capture.specs.Feed.{World, Keeps, goesBy, goes-room, goes-read, taken-by, source-some, turn-by}
-use Rattle.capture.specs.Feed.{fedFrom, fed-turn, fed-stops, fed-short, fed-long}
+use Rattle.feeding.specs.Feed.{World, Keeps, goesBy, goes-room, goes-read, taken-by, source-some, turn-by}
+use Rattle.feeding.specs.Feed.{fedFrom, fed-turn, fed-stops, fed-short, fed-long}
 use Rattle.state.specs.Clean.{exact-none, exact-on}
-use Rattle.capture.proofs.feed.feed.Statement.{statement}
-use Rattle.capture.proofs.feed.feed.Tie as tie
+use Rattle.feeding.proofs.feed.feed.Statement.{statement}
+use Rattle.feeding.proofs.feed.feed.Tie as tie
 
 abbrev world : Session → ℕ → List ℕ → ℕ → List ℕ → List ℕ → List ℕ → ℕ → World
 world s held command read p c out written =

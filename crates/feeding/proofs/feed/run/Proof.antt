@@ -1,10 +1,10 @@
 -- Why `run` meets its contract: the command is not whole, or is carried out.
 use mathlib.Core.Path.{refl, sym, _∙_}
-use Rattle.capture.specs.Feed.{ran-part, ran-whole}
+use Rattle.feeding.specs.Feed.{ran-part, ran-whole}
 use borrow.Author.Needs.{needs}
 use Rattle.state.specs.Clean.{exact-none, exact-on}
-use Rattle.capture.proofs.feed.run.Statement.{statement}
-use Rattle.capture.proofs.feed.run.Tie as tie
+use Rattle.feeding.proofs.feed.run.Statement.{statement}
+use Rattle.feeding.proofs.feed.run.Tie as tie
 
 returns : tie.Need-returns
 returns c =

@@ -2,9 +2,9 @@
 use mathlib.Core.Path.{sym}
 use borrow.Author.Needs.{needs}
 use lib.Seq.{length-take-le}
-use Rattle.capture.specs.Feed.{source-block, source-gathered}
-use Rattle.capture.proofs.feed.source.Statement.{statement}
-use Rattle.capture.proofs.feed.source.Tie as tie
+use Rattle.feeding.specs.Feed.{source-block, source-gathered}
+use Rattle.feeding.proofs.feed.source.Statement.{statement}
+use Rattle.feeding.proofs.feed.source.Tie as tie
 
 returns : tie.Need-returns
 returns c = rw (c .before .if1 .taken) (sym (source-block _ _ _ _))

@@ -10,16 +10,16 @@ use lib.ListN.{length}
 use Rattle.delivery.specs.declared.event.Event.{Event}
 use Rattle.delivery.specs.Choice.{by-test}
 use Rattle.receiver.specs.Next.{nextOf}
 use Rattle.capture.specs.Session.{Session, busy, withState, withTally}
 use Rattle.lines.specs.Text.{wrote}
 use Rattle.lines.specs.Line.{longestLine, isLine}
 use Rattle.capture.specs.Waits.{waits, next-falls}
 use Rattle.capture.specs.Capture.{eventLine, tallied}
 use Rattle.capture.specs.Steps.{Poured, pourBy, roomy, pouredBy, pouredOf, pour-step}
-use Rattle.capture.specs.Feed.{World, keptOf, goesBy, goes, turnOf, fedBy, fedFrom, entered}
-use Rattle.capture.specs.Feed.{Wants, kept-wants, turn-reads, fed-turn, fed-long}
-use Rattle.capture.specs.Progress.{FeedGetsOn, Less, PourGetsOn}
+use Rattle.feeding.specs.Feed.{World, keptOf, goesBy, goes, turnOf, fedBy, fedFrom, entered}
+use Rattle.feeding.specs.Feed.{Wants, kept-wants, turn-reads, fed-turn, fed-long}
+use Rattle.feeding.specs.Progress.{FeedGetsOn, Less, PourGetsOn}
 use Rattle.capture.proofs.Pours.{closed-idle}
 
 -- no turn gives bytes back
 reads-more : (f : ℕ) (block : List ℕ) (w : World) → w .read ≤ fedBy f block w .read

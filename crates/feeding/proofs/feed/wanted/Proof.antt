@@ -1,10 +1,10 @@
 -- Why `wanted` meets its contract: nothing is held, or the rest of the command is wanted.
 use mathlib.Core.Path.{sym}
 use native.Mathlib.Omega.{arith}
-use Rattle.capture.specs.Feed.{wanted-first, wanted-rest}
+use Rattle.feeding.specs.Feed.{wanted-first, wanted-rest}
 use borrow.Author.Needs.{needs}
-use Rattle.capture.proofs.feed.wanted.Statement.{statement}
-use Rattle.capture.proofs.feed.wanted.Tie as tie
+use Rattle.feeding.proofs.feed.wanted.Statement.{statement}
+use Rattle.feeding.proofs.feed.wanted.Tie as tie
 
 returns : tie.Need-returns
 returns c = sym (wanted-first _ (c .if1 .taken))

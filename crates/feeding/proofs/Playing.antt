@@ -10,16 +10,16 @@ use lib.Seq.{take-paste, take-length, length-take-le}
 use lib.Dec.{eqb}
 use Rattle.wire.specs.Memory.{pasted}
 use Rattle.lines.specs.Text.{wrote}
 use Rattle.capture.specs.Session.{busy}
 use Rattle.capture.specs.Command.{longestCommand, sizeOf, whole, size-none}
 use Rattle.capture.specs.Capture.{lastLine, textOf, captureOf}
-use Rattle.capture.specs.Feed.{World, heldOf, keptOf, leftBy, entered, fedFrom, fed-long, kept-all, kept-none}
-use Rattle.capture.specs.Claims.{Right}
-use Rattle.capture.specs.Plays.{Player, fed, afterFeed, poured, afterPour, Plays, stops, feeds, pours, first, PlayClaim}
+use Rattle.feeding.specs.Feed.{World, heldOf, keptOf, leftBy, entered, fedFrom, fed-long, kept-all, kept-none}
+use Rattle.feeding.specs.Claims.{Right}
+use Rattle.feeding.specs.Plays.{Player, fed, afterFeed, poured, afterPour, Plays, stops, feeds, pours, first, PlayClaim}
 use Rattle.capture.specs.Drains.{drain-idle}
 use Rattle.capture.proofs.Pours.{pour-claim}
 use Rattle.capture.proofs.Texts.{text-step, text-behind, whole-size}
-use Rattle.capture.proofs.Feeds.{feed-claim, ended-text}
+use Rattle.feeding.proofs.Feeds.{feed-claim, ended-text}
 
 -- what was written from the front on
 front : (out o t : List ℕ) (r : ℕ) → (r, o) ≡ wrote out 0 t → take r o ≡ t

@@ -2,10 +2,10 @@
 use mathlib.Core.Path.{sym}
 use native.Mathlib.Omega.{arith}
 use lib.Seq.{length-take-le}
-use Rattle.capture.specs.Feed.{gathered-by}
+use Rattle.feeding.specs.Feed.{gathered-by}
 use borrow.Author.Needs.{needs}
-use Rattle.capture.proofs.feed.gather.Statement.{statement}
-use Rattle.capture.proofs.feed.gather.Tie as tie
+use Rattle.feeding.proofs.feed.gather.Statement.{statement}
+use Rattle.feeding.proofs.feed.gather.Tie as tie
 
 slice-aggregate-wanted : tie.Need-slice-aggregate-wanted
 slice-aggregate-wanted c = sym (length-take-le _ _ (omega (arith, c .before .before .before .pre .0 .most)))

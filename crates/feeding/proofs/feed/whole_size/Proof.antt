@@ -2,9 +2,9 @@
 use mathlib.Core.Path.{sym, _∙_}
 use native.Mathlib.Omega.{arith}
 use borrow.Author.Needs.{needs}
-use Rattle.capture.specs.Feed.{whole-none, whole-unknown, whole-part, whole-known}
-use Rattle.capture.proofs.feed.whole_size.Statement.{statement}
-use Rattle.capture.proofs.feed.whole_size.Tie as tie
+use Rattle.feeding.specs.Feed.{whole-none, whole-unknown, whole-part, whole-known}
+use Rattle.feeding.proofs.feed.whole_size.Statement.{statement}
+use Rattle.feeding.proofs.feed.whole_size.Tie as tie
 
 returns : tie.Need-returns
 returns c = (sym (whole-none _ (c .if1 .taken)), omega arith)

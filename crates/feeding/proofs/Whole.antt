@@ -12,18 +12,18 @@ use Rattle.delivery.specs.declared.event.Event.{Event}
 use Rattle.receiver.specs.Next.{nextOf}
 use Rattle.lines.specs.Text.{wrote}
 use Rattle.lines.specs.Line.{isLine}
 use Rattle.capture.specs.Session.{Session, busy, isEnded, withState, withTally, freshSession}
 use Rattle.capture.specs.Command.{longestCommand, sizeOf}
 use Rattle.capture.specs.Waits.{waits, next-falls}
 use Rattle.capture.specs.Capture.{eventLine, tallied, lastLine, textOf, captureOf}
 use Rattle.capture.specs.Steps.{Poured, pourBy, roomy, actedOf, pouredBy, pouredOf}
-use Rattle.capture.specs.Feed.{World, Wants, Ran, ranOf, goesBy, goes, turnOf, turn-wants, turn-reads, goes-read, fedBy, fedFrom}
-use Rattle.capture.specs.Feed.{entered, leftBy, fed-long, keeps-none}
-use Rattle.capture.specs.Claims.{ahead}
-use Rattle.capture.specs.Plays.{Player, first, fed, afterFeed, WholeClaim}
+use Rattle.feeding.specs.Feed.{World, Wants, Ran, ranOf, goesBy, goes, turnOf, turn-wants, turn-reads, goes-read, fedBy, fedFrom}
+use Rattle.feeding.specs.Feed.{entered, leftBy, fed-long, keeps-none}
+use Rattle.feeding.specs.Claims.{ahead}
+use Rattle.feeding.specs.Plays.{Player, first, fed, afterFeed, WholeClaim}
 use Rattle.capture.proofs.Pours.{closed-idle}
-use Rattle.capture.proofs.Feeds.{feed-claim, ended-text}
-use Rattle.capture.proofs.Playing.{Good, toCome, good-kept, right, feed-good, idle-text, first-good}
+use Rattle.feeding.proofs.Feeds.{feed-claim, ended-text}
+use Rattle.feeding.proofs.Playing.{Good, toCome, good-kept, right, feed-good, idle-text, first-good}
 
 -- next is owed for want of room
 abbrev Full : Session → List ℕ → ℕ → Type 0

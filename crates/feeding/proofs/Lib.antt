@@ -1,0 +1,5 @@
+-- The theorems: feeding in blocks changes nothing, and gets on.
+pub mod Feeds
+pub mod Playing
+pub mod Progress
+pub mod Whole

@@ -1,0 +1,2 @@
+// Feeding: a capture's bytes in blocks of any size.
+pub mod feed;
