@@ -12,7 +12,7 @@ use Rattle.tmcc.proofs.Laws.{accepted-layout, layout-sizes, layout-most}
 use Rattle.tlv.specs.Run.{searching}
 use Rattle.reassembly.specs.Run.{fresh}
 use Rattle.state.specs.Start.{startOf, started as fresh-start, accepts as start-accepts}
-use Rattle.receiver.specs.Slot.{length-right}
+use Rattle.frames.specs.Slot.{length-right}
 use Rattle.broadcast.specs.Frames.{Frame, layoutIn}
 use Rattle.broadcast.specs.Demand3.{started}
 use Rattle.broadcast.specs.Accepts.{GoodFrame, AllGood, Accepts}

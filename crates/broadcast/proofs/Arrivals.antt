@@ -31,7 +31,7 @@ use Rattle.broadcast.specs.Frames.{
 }
 use Rattle.broadcast.specs.Demand3.{kept}
 use Rattle.broadcast.proofs.AccountLoss.{lost-many}
-use Rattle.receiver.specs.Slot.{right-length}
+use Rattle.frames.specs.Slot.{right-length}
 use Rattle.broadcast.proofs.SlotCalls.{SlotsFit}
 use Rattle.broadcast.proofs.Reading.{FramesFit}
 

@@ -68,7 +68,7 @@ use Rattle.reassembly.specs.Join.{interrupted, begun, counterFollows, grown, ex
 use Rattle.reassembly.specs.Run.{Content, Input, step, fresh, count}
 use Rattle.reassembly.specs.Sent.{openUnit, sentAfter, sent}
 use Rattle.state.specs.Start.{startRefusal, startOf, twiceBelow, twice, before, startFrom}
-use Rattle.receiver.specs.Slot.{wrongLength}
+use Rattle.frames.specs.Slot.{wrongLength}
 use Rattle.broadcast.specs.Account.{readOf, events, account}
 use Rattle.broadcast.specs.Carried.{inputs, rowInputs, carriedUnits, intactUnits, contents, Few}
 use Rattle.intake.specs.Slot.{packetMemory, heldBytes}

@@ -20,8 +20,8 @@ use Rattle.reassembly.specs.Run.{Event as Account-event, note as account-note, 
 use Rattle.state.specs.State.{State, accepted as acceptedAs, refused as refusedWith, withFrame}
 use Rattle.tmcc.specs.Block.{decodeOf}
 use Rattle.intake.specs.Slot.{packetMemory}
-use Rattle.receiver.specs.Frame.{frameBusy, frameOf}
-use Rattle.receiver.specs.Slot.{slotRefusal, wrongLength, slotOf, slotTaken, dueLength, dueOwn, duePointers, ready}
+use Rattle.frames.specs.Frame.{frameBusy, frameOf}
+use Rattle.frames.specs.Slot.{slotRefusal, wrongLength, slotOf, slotTaken, dueLength, dueOwn, duePointers, ready}
 use Rattle.state.specs.Start.{startRefusal, startOf, freshState, blankConfig, starts, startFrom}
 use Rattle.broadcast.specs.Account.{account}
 use Rattle.broadcast.specs.Carried.{inputs, rowInputs, carriedUnits, intactUnits, contents, Few}

@@ -19,7 +19,7 @@ use Rattle.state.specs.State.{Frame, State, withSlot, withQueue}
 use Rattle.delivery.specs.Waiting.{Queue}
 use Rattle.intake.specs.Slot.{packetMemory, holding}
 use Rattle.delivery.specs.Queue.{eventTaken}
-use Rattle.receiver.specs.Slot.{shortBy}
+use Rattle.frames.specs.Slot.{shortBy}
 use Rattle.receiver.specs.Next.{NextOut, onwards, readOn, readAll, nextOf, past, packetOf}
 use Rattle.delivery.specs.Cursor.{advancedOf, turnBy, turnOf, left}
 use Rattle.broadcast.specs.Account.{Read, readOf, afterRead, events, lanesAfter}

@@ -28,8 +28,8 @@ use Rattle.delivery.specs.Cursor.{advancedOf, turnBy, turnOf, left}
 use Rattle.delivery.specs.Queue.{eventTaken}
 use Rattle.state.specs.State.{State, Called, withSlot, withQueue}
 use Rattle.state.specs.Start.{startRefusal, freshState, startOf, startFrom}
-use Rattle.receiver.specs.Frame.{frameBusy, frameOf, lossOf, lostFrameOf, free}
-use Rattle.receiver.specs.Slot.{SlotOut, slotRefusal, counted, dueLength, duePointers, dueOwn, wrongLength, slotTaken, slotOf, lossTaken, lostSlotOf, ready, right-length, shortBy}
+use Rattle.frames.specs.Frame.{frameBusy, frameOf, lossOf, lostFrameOf, free}
+use Rattle.frames.specs.Slot.{SlotOut, slotRefusal, counted, dueLength, duePointers, dueOwn, wrongLength, slotTaken, slotOf, lossTaken, lostSlotOf, ready, right-length, shortBy}
 use Rattle.receiver.specs.Next.{NextOut, packetOf, past, onwards, readOn, readAll, nextOf}
 use Rattle.receiver.specs.ReadOn.{packet-kept}
 use Rattle.broadcast.specs.Drains.{HeldIs}

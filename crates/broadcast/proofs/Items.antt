@@ -15,8 +15,8 @@ use Rattle.reassembly.specs.Run.{Lane}
 use Rattle.intake.specs.Slot.{packetMemory}
 use Rattle.state.specs.State.{Frame, State}
 use Rattle.delivery.specs.Waiting.{Queue}
-use Rattle.receiver.specs.Frame.{frameBusy, lossOf, lostFrameOf}
-use Rattle.receiver.specs.Slot.{
+use Rattle.frames.specs.Frame.{frameBusy, lossOf, lostFrameOf}
+use Rattle.frames.specs.Slot.{
   counted,
   ownOf,
   slotRefusal,

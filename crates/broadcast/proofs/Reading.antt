@@ -15,8 +15,8 @@ use Rattle.tlv.specs.Run.{State as Slot-state, Arrival, lost, step, run, stateA
 use Rattle.reassembly.specs.declared.config.Config.{Config}
 use Rattle.reassembly.specs.Run.{Lane}
 use Rattle.state.specs.State.{Frame as ReceiverFrame, State, withFrame, refused as refusedWith, accepted as acceptedAs}
-use Rattle.receiver.specs.Frame.{frameBusy, frameOf}
-use Rattle.receiver.specs.Slot.{wrongLength, slotRefusal, slotOf, slotTaken, dueLength, dueOwn, duePointers}
+use Rattle.frames.specs.Frame.{frameBusy, frameOf}
+use Rattle.frames.specs.Slot.{wrongLength, slotRefusal, slotOf, slotTaken, dueLength, dueOwn, duePointers}
 use Rattle.broadcast.specs.Account.{events, lanesAfter}
 use Rattle.broadcast.specs.Drains.{Shown, strip}
 use Rattle.broadcast.specs.Calls.{

@@ -19,8 +19,8 @@ use Rattle.state.specs.State.{Frame as ReceiverFrame, State, accepted as accept
 use Rattle.delivery.specs.declared.event.Event.the-variants.{Nothing, Refused}
 use Rattle.receiver.specs.Next.{answered, readOn, readAll, nextOf}
 use Rattle.delivery.specs.Cursor.{left}
-use Rattle.receiver.specs.Slot.{wrongLength, slotOf, lostSlotOf, lossTaken, dueOwn, shortBy, slotRefusal}
-use Rattle.receiver.specs.Frame.{frameBusy, frameOf, lossOf, lostFrameOf}
+use Rattle.frames.specs.Slot.{wrongLength, slotOf, lostSlotOf, lossTaken, dueOwn, shortBy, slotRefusal}
+use Rattle.frames.specs.Frame.{frameBusy, frameOf, lossOf, lostFrameOf}
 use Rattle.broadcast.specs.Account.{account, events, lanesAfter}
 use Rattle.broadcast.specs.Drains.{Shown, strip}
 use Rattle.broadcast.specs.Calls.{

@@ -9,7 +9,7 @@ use Rattle.tmcc.specs.declared.layout.Layout.{Layout}
 use Rattle.tlv.specs.Run.{Stepped, State as Slot-state, Arrival, given, lost, step, run, stateAfter, Event as Slot-event}
 use Rattle.reassembly.specs.declared.config.Config.{Config}
 use Rattle.reassembly.specs.Run.{Lane}
-use Rattle.receiver.specs.Slot.{wrongLength, right-length}
+use Rattle.frames.specs.Slot.{wrongLength, right-length}
 use Rattle.broadcast.specs.Account.{events, lanesAfter, afterEvent}
 use Rattle.broadcast.specs.Drains.{Shown, strip}
 use Rattle.broadcast.specs.Calls.{

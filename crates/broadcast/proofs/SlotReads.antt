@@ -60,8 +60,8 @@ use Rattle.intake.specs.Slot.{
   intakeOf,
   lostOf,
 }
-use Rattle.receiver.specs.Frame.{lossOf}
-use Rattle.receiver.specs.Slot.{counted, ownOf}
+use Rattle.frames.specs.Frame.{lossOf}
+use Rattle.frames.specs.Slot.{counted, ownOf}
 use Rattle.broadcast.specs.Drains.{HeldIs}
 use Rattle.broadcast.specs.Pending.{Found, slot-notes, a-packet, bare, some-if, cursorPending, cursorLeaves}
 use Rattle.broadcast.specs.SlotClaims.{Short, CursorGood, Same, Reads, slotFrom, OwnSlot, LostSlot, LostFrame}

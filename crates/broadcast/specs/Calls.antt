@@ -9,8 +9,8 @@ use Rattle.delivery.specs.declared.event.Event.{Event}
 use Rattle.delivery.specs.declared.event.Event.the-variants.{Nothing, Note, Unit, Refused}
 use Rattle.delivery.specs.declared.event.Given.{Given}
 use Rattle.state.specs.State.{State}
-use Rattle.receiver.specs.Frame.{frameOf, lostFrameOf}
-use Rattle.receiver.specs.Slot.{slotOf, lostSlotOf}
+use Rattle.frames.specs.Frame.{frameOf, lostFrameOf}
+use Rattle.frames.specs.Slot.{slotOf, lostSlotOf}
 use Rattle.receiver.specs.Next.{nextOf}
 use Rattle.broadcast.specs.Drains.{Shown, note, shown}
 

@@ -19,8 +19,8 @@ use Rattle.state.specs.State.{Frame, State}
 use Rattle.intake.specs.declared.held.Held.{Held}
 use Rattle.intake.specs.Slot.{searching, holding, noted, slotArea}
 use Rattle.delivery.specs.Cursor.{advancedOf, left}
-use Rattle.receiver.specs.Frame.{lossOf}
-use Rattle.receiver.specs.Slot.{counted, ownOf}
+use Rattle.frames.specs.Frame.{lossOf}
+use Rattle.frames.specs.Slot.{counted, ownOf}
 use Rattle.broadcast.specs.Drains.{HeldIs, Tracks}
 use Rattle.broadcast.specs.Pending.{slot-notes, a-packet, bare, cursorPending, cursorLeaves}
 

@@ -10,7 +10,7 @@ use lib.Dec.{eqb, ltb}
 use lib.ListN.{length}
 use Rattle.delivery.specs.declared.event.Event.{Event}
 use Rattle.state.specs.State.{State}
-use Rattle.receiver.specs.Slot.{shortBy}
+use Rattle.frames.specs.Slot.{shortBy}
 use Rattle.receiver.specs.Next.{nextOf, next-short}
 use Rattle.receiver.specs.Show.{showOf}
 use Rattle.receiver.proofs.Demand1.{demand-1}

@@ -12,7 +12,7 @@ use Rattle.words.specs.Channel.{SizedConfig, readConfig}
 use Rattle.delivery.specs.declared.event.Event.{Event}
 use Rattle.delivery.specs.declared.event.Given.{Given}
 use Rattle.state.specs.State.{State, refused}
-use Rattle.receiver.specs.Slot.{shortBy}
+use Rattle.frames.specs.Slot.{shortBy}
 use Rattle.receiver.specs.Next.{nextOf}
 use Rattle.state.specs.Start.{startFrom}
 use Rattle.receiver.specs.Show.{showOf}

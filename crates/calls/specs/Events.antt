@@ -14,7 +14,7 @@ use Rattle.delivery.specs.declared.event.Memory.the-variants.{Packet, Collectin
 use Rattle.delivery.specs.declared.event.Event.{Event}
 use Rattle.delivery.specs.declared.event.Event.the-variants.{Nothing, Note, Unit, Refused}
 use Rattle.state.specs.State.{State}
-use Rattle.receiver.specs.Slot.{shortBy}
+use Rattle.frames.specs.Slot.{shortBy}
 use Rattle.receiver.specs.Next.{NextOut, nextOf}
 use Rattle.calls.specs.Record.{recordWords, eventRecord, EventStored, length-record}
 

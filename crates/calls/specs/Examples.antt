@@ -22,7 +22,7 @@ use Rattle.delivery.specs.Queue.{empty, giving, eventTaken}
 use Rattle.delivery.specs.Cursor.{turnOf, advancedOf, left}
 use Rattle.state.specs.State.{State, withOwed, withSlot, withQueue, refused}
 use Rattle.state.specs.Start.{before, twiceBelow, twice, freshState, startRefusal, startFrom}
-use Rattle.receiver.specs.Slot.{shortBy}
+use Rattle.frames.specs.Slot.{shortBy}
 use Rattle.receiver.specs.Next.{readOn, readAll, nextOf}
 use Rattle.receiver.specs.Show.{showOf}
 use Rattle.calls.specs.Bounds.{areWithin}

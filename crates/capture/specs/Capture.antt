@@ -8,8 +8,8 @@ use Rattle.delivery.specs.declared.event.Event.{Event}
 use Rattle.delivery.specs.declared.event.Event.the-variants.{Nothing, Note, Unit, Refused}
 use Rattle.state.specs.State.{Called, State, withOwed, accepted}
 use Rattle.state.specs.Start.{startFrom}
-use Rattle.receiver.specs.Frame.{frameOf, lostFrameOf}
-use Rattle.receiver.specs.Slot.{slotOf, lostSlotOf}
+use Rattle.frames.specs.Frame.{frameOf, lostFrameOf}
+use Rattle.frames.specs.Slot.{slotOf, lostSlotOf}
 use Rattle.receiver.specs.Next.{nextOf}
 use Rattle.capture.specs.declared.command.Letter.{Letter}
 use Rattle.capture.specs.declared.command.Letter.the-variants.{Start, Frame, LostFrame, Slot, LostSlot, Unknown}

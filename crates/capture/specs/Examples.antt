@@ -13,8 +13,8 @@ use Rattle.reassembly.specs.Channel.{unheard}
 use Rattle.intake.specs.Slot.{lostOf}
 use Rattle.delivery.specs.Cursor.{left}
 use Rattle.state.specs.Start.{before, twiceBelow, twice, freshState, startRefusal, startFrom}
-use Rattle.receiver.specs.Frame.{frameBusy, frameOf, lossOf, lostFrameOf}
-use Rattle.receiver.specs.Slot.{shortBy, slotRefusal, slotOf, lostSlotOf}
+use Rattle.frames.specs.Frame.{frameBusy, frameOf, lossOf, lostFrameOf}
+use Rattle.frames.specs.Slot.{shortBy, slotRefusal, slotOf, lostSlotOf}
 use Rattle.receiver.specs.Next.{nextOf}
 use Rattle.lines.specs.Decimal.{digits, decimal}
 use Rattle.lines.specs.Line.{field, refusedLine, endLine}

@@ -10,7 +10,7 @@ use lib.Dec.{leb}
 use Rattle.delivery.specs.declared.event.Event.{Event}
 use Rattle.delivery.specs.declared.event.Event.the-variants.{Nothing}
 use Rattle.state.specs.State.{Called}
-use Rattle.receiver.specs.Slot.{shortBy}
+use Rattle.frames.specs.Slot.{shortBy}
 use Rattle.receiver.specs.Next.{NextOut, readAll, nextOf, next-short, next-reads}
 use Rattle.receiver.specs.ReadOn.{next-calm, next-config}
 use Rattle.capture.specs.declared.command.Letter.{Letter}

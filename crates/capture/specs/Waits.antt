@@ -29,7 +29,7 @@ use Rattle.delivery.specs.Cursor.{turn-on, advanced-less, advanced-note, advanc
 use Rattle.delivery.specs.Cursor.{slot-packet, slot-tail}
 use Rattle.intake.specs.Slot.{holding}
 use Rattle.state.specs.State.{State, withSlot}
-use Rattle.receiver.specs.Slot.{shortBy}
+use Rattle.frames.specs.Slot.{shortBy}
 use Rattle.receiver.specs.Next.{NextOut, past, onwards, packetOf, readOn, readAll, nextOf, next-short, next-idle, next-reads}
 use Rattle.receiver.specs.ReadOn.{packet-kept}
 use Rattle.lines.specs.Line.{isLine}

@@ -29,8 +29,8 @@ use Rattle.delivery.specs.Packet.{arrivedAt, firstUnit, collected, giveOf, join
 use Rattle.delivery.specs.Queue.{eventTaken}
 use Rattle.delivery.specs.Cursor.{turnOf, advancedOf, slotAdvanced, tailAdvanced, left}
 use Rattle.state.specs.Start.{before, twiceBelow, twice, freshState, startRefusal, startFrom}
-use Rattle.receiver.specs.Frame.{frameBusy, frameOf, lossOf, lostFrameOf}
-use Rattle.receiver.specs.Slot.{shortBy, slotRefusal, counted, wrongLength, slotOf, lostSlotOf}
+use Rattle.frames.specs.Frame.{frameBusy, frameOf, lossOf, lostFrameOf}
+use Rattle.frames.specs.Slot.{shortBy, slotRefusal, counted, wrongLength, slotOf, lostSlotOf}
 use Rattle.receiver.specs.Next.{packetOf, readOn, readAll, nextOf}
 use Rattle.lines.specs.Decimal.{digits, decimal}
 use Rattle.lines.specs.Line.{field, placeText, carriedText, unitLine, idText, noteLine, refusedLine, endLine}

@@ -56,10 +56,10 @@ fn call(letter: Letter, words: &mut [u64], packet: &mut [u8], collecting: &[u8],
             let config = config(b);
             state::start::start(config, words)
         }
-        Letter::Frame => receiver::frame::frame(words, &b[1..]),
-        Letter::LostFrame => receiver::frame::lost_frame(words),
-        Letter::Slot => receiver::slot::slot(words, packet, collecting, &b[3..]),
-        Letter::LostSlot => receiver::slot::lost_slot(words, packet, collecting),
+        Letter::Frame => frames::frame::frame(words, &b[1..]),
+        Letter::LostFrame => frames::frame::lost_frame(words),
+        Letter::Slot => frames::slot::slot(words, packet, collecting, &b[3..]),
+        Letter::LostSlot => frames::slot::lost_slot(words, packet, collecting),
         Letter::Unknown => 0,
     }
 }

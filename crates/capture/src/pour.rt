@@ -158,7 +158,7 @@ pub fn pour(
     if !has_room(out.len(), at) {
         return Progress { session, at };
     }
-    if receiver::slot::is_short(words, packet.len(), collecting.len()) {
+    if frames::slot::is_short(words, packet.len(), collecting.len()) {
         let at = put_refused(out, at, 22);
         let session = end(session);
         return Progress { session, at };

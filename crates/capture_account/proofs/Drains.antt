@@ -7,7 +7,7 @@ use native.Mathlib.Omega.{arith}
 use lib.ListN.{length}
 use Rattle.delivery.specs.declared.event.Event.the-variants.{Nothing, Note, Unit, Refused}
 use Rattle.state.specs.State.{Answer, State, withOwed}
-use Rattle.receiver.specs.Slot.{shortBy}
+use Rattle.frames.specs.Slot.{shortBy}
 use Rattle.receiver.specs.Show.{showOf}
 use Rattle.receiver.specs.Next.{NextOut, nextOf, next-short, next-idle}
 use Rattle.lines.specs.Line.{isLine}

@@ -13,7 +13,7 @@ use Rattle.tmcc.specs.Layout.{blankLayout}
 use Rattle.tmcc.specs.Block.{decodeOf}
 use Rattle.tmcc.proofs.Laws.{accepted as tmcc-accepted}
 use Rattle.tlv.specs.Run.{Arrival, lost}
-use Rattle.receiver.specs.Slot.{wrongLength}
+use Rattle.frames.specs.Slot.{wrongLength}
 use Rattle.capture.specs.declared.command.Letter.the-variants.{Start}
 use Rattle.capture.specs.Command.{letterOf, size-by}
 use Rattle.broadcast.specs.Account.{account}

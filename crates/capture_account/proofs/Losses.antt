@@ -14,7 +14,7 @@ use Rattle.reassembly.specs.declared.config.Config.{Config}
 use Rattle.reassembly.specs.Sent.{sentAfter, sent}
 use Rattle.state.specs.State.{State}
 use Rattle.state.specs.Start.{startOf, freshState}
-use Rattle.receiver.specs.Slot.{shortBy}
+use Rattle.frames.specs.Slot.{shortBy}
 use Rattle.capture.specs.declared.command.Letter.the-variants.{Start}
 use Rattle.capture.specs.declared.session.Tally.{Tally}
 use Rattle.capture.specs.Command.{sizeOf, whole, size-by, size-none}

@@ -22,7 +22,7 @@ use Rattle.broadcast.specs.Carried.{carriedUnits, intactUnits, contents}
 use Rattle.broadcast.specs.Frames.{Frame, Damage, none, slotsTodo, reading}
 use Rattle.broadcast.specs.Demand3.{NoNote, Reads, slotsOf, kept}
 use Rattle.broadcast.specs.Broadcast.{config, frames, Assumed, Memories, Remain, slotLost, frameLost}
-use Rattle.receiver.specs.Slot.{right-length}
+use Rattle.frames.specs.Slot.{right-length}
 use Rattle.broadcast.proofs.SlotCalls.{SlotsFit}
 use Rattle.broadcast.proofs.Reading.{FramesFit, frames-fit}
 use Rattle.broadcast.proofs.Demand3.{start-at, shows-account, demand-3}

@@ -22,7 +22,7 @@ use Rattle.reassembly.specs.Unit.{agrees}
 use Rattle.reassembly.specs.Channel.{nextPsn, heard, gap, unheard}
 use Rattle.reassembly.specs.Join.{interrupted, begun, counterFollows, grown, extended, followed, acted, joinOf, notesOf}
 use Rattle.reassembly.specs.Run.{step, fresh}
-use Rattle.receiver.specs.Slot.{wrongLength}
+use Rattle.frames.specs.Slot.{wrongLength}
 use Rattle.broadcast.specs.Account.{readOf, events, lanesAfter}
 use Rattle.broadcast.specs.Frames.{slotsTodo, reading}
 use Rattle.broadcast.specs.Broadcast.{config, block, opening, closing, slotsOver, frames, frameLost}

@@ -12,9 +12,9 @@ use Rattle.reassembly.specs.declared.config.Config.{Config}
 use Rattle.delivery.specs.Choice.{neither}
 use Rattle.state.specs.State.{Called, State, withFrame, refused as refusedWith, accepted as acceptedAs}
 use Rattle.state.specs.Start.{freshState}
-use Rattle.receiver.specs.Frame.{frameBusy, frameOf, lossOf, lostFrameOf, frame-short, frame-busy, frame-refused, frame-accepted}
-use Rattle.receiver.specs.Frame.{lost-frame-busy, lost-frame-accepted}
-use Rattle.receiver.specs.Slot.{shortBy, slotRefusal, slot-refused, lost-refused}
+use Rattle.frames.specs.Frame.{frameBusy, frameOf, lossOf, lostFrameOf, frame-short, frame-busy, frame-refused, frame-accepted}
+use Rattle.frames.specs.Frame.{lost-frame-busy, lost-frame-accepted}
+use Rattle.frames.specs.Slot.{shortBy, slotRefusal, slot-refused, lost-refused}
 use Rattle.receiver.specs.Next.{next-short}
 use Rattle.capture.specs.declared.command.Letter.{Letter}
 use Rattle.capture.specs.declared.command.Letter.the-variants.{Start, Frame, LostFrame, Slot, LostSlot, Unknown}

@@ -8,7 +8,7 @@ use lib.Dec.{eqb, ltb, leb}
 use Rattle.tmcc.specs.declared.layout.Layout.{Layout}
 use Rattle.tmcc.specs.Block.{decodeOf}
 use Rattle.tlv.specs.Run.{Arrival, lost, given}
-use Rattle.receiver.specs.Slot.{wrongLength}
+use Rattle.frames.specs.Slot.{wrongLength}
 use Rattle.capture.specs.declared.command.Letter.{Letter}
 use Rattle.capture.specs.declared.command.Letter.the-variants.{Start, Frame, LostFrame, Slot, LostSlot, Unknown}
 use Rattle.capture.specs.Command.{letterOf, sizeOf, whole}

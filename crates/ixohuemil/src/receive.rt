@@ -3,8 +3,8 @@ ghost use mathlib.Core.Path.{_≡_};
 ghost use mathlib.Core.List.{[]};
 ghost use lib.ListN.{length};
 ghost use Rattle.state.specs.Words.{stateIn, Starts, Leaves};
-ghost use Rattle.receiver.specs.Frame.{frameOf, lostFrameOf};
-ghost use Rattle.receiver.specs.Slot.{slotOf, lostSlotOf};
+ghost use Rattle.frames.specs.Frame.{frameOf, lostFrameOf};
+ghost use Rattle.frames.specs.Slot.{slotOf, lostSlotOf};
 ghost use Rattle.calls.specs.Settings.{startBy};
 
 // A fresh receiver. Refused with 90, 91 or 1 to 4.
@@ -20,7 +20,7 @@ pub extern "C" fn ixohuemil_start(settings: &[u64], state: &mut [u64]) -> u8
 pub extern "C" fn ixohuemil_frame(state: &mut [u64], block: &[u8]) -> u8
     ensures { λ r. ⌜ Leaves (now (state .entry)) [] r (now (state .exit)) [] (frameOf (stateIn (now (state .entry))) (now (block .entry)), []) ⌝ }
 {
-    receiver::frame::frame(state, block)
+    frames::frame::frame(state, block)
 }
 
 // A lost frame. Refused with 90 or 11.
@@ -28,7 +28,7 @@ pub extern "C" fn ixohuemil_frame(state: &mut [u64], block: &[u8]) -> u8
 pub extern "C" fn ixohuemil_lost_frame(state: &mut [u64]) -> u8
     ensures { λ r. ⌜ Leaves (now (state .entry)) [] r (now (state .exit)) [] (lostFrameOf (stateIn (now (state .entry))), []) ⌝ }
 {
-    receiver::frame::lost_frame(state)
+    frames::frame::lost_frame(state)
 }
 
 // The slot that is due, with its data. Refused with 90 or 20 to 23.
@@ -42,7 +42,7 @@ pub extern "C" fn ixohuemil_slot(
     ensures { λ r. ⌜ Leaves (now (state .entry)) (now (packet .entry)) r (now (state .exit)) (now (packet .exit))
         (slotOf (stateIn (now (state .entry))) (now (packet .entry)) (now (collecting .entry)) (now («data» .entry))) ⌝ }
 {
-    receiver::slot::slot(state, packet, collecting, data)
+    frames::slot::slot(state, packet, collecting, data)
 }
 
 // The slot that is due, lost. Refused with 90 or 20 to 22.
@@ -51,5 +51,5 @@ pub extern "C" fn ixohuemil_lost_slot(state: &mut [u64], packet: &[u8], collecti
     ensures { λ r. ⌜ Leaves (now (state .entry)) [] r (now (state .exit)) []
         (lostSlotOf (stateIn (now (state .entry))) (length (now (packet .entry))) (length (now (collecting .entry))), []) ⌝ }
 {
-    receiver::slot::lost_slot(state, packet, collecting)
+    frames::slot::lost_slot(state, packet, collecting)
 }

@@ -38,7 +38,7 @@ use Rattle.intake.specs.declared.held.Cursor.{Cursor}
 use Rattle.delivery.specs.Cursor.{turnOf, left, isEvent, advancedBy, slotAdvanced, tailAdvanced, advancedOf, turn-event, turn-on}
 use Rattle.intake.specs.Slot.{holding}
 use Rattle.state.specs.State.{State, withSlot}
-use Rattle.receiver.specs.Slot.{shortBy}
+use Rattle.frames.specs.Slot.{shortBy}
 use Rattle.receiver.specs.Show.{showOf}
 use Rattle.receiver.specs.Next.{NextOut, past, onwards, arrivedBy, packetOf, readOn, readAll, nextOf, next-short, next-idle}
 use Rattle.receiver.specs.Next.{next-reads, short-room}

@@ -9,20 +9,13 @@ use lib.ListN.{length, take, drop}
 use Rattle.reassembly.specs.declared.config.Config.{Config}
 use Rattle.delivery.specs.declared.event.Event.the-variants.{Refused}
 use Rattle.delivery.specs.declared.event.Place.{Place}
-use Rattle.state.specs.State.{State, Called}
+use Rattle.state.specs.State.{State}
+use Rattle.state.specs.Refused.{IsRefused, Kept}
 use Rattle.state.specs.Start.{startFrom}
-use Rattle.receiver.specs.Frame.{frameOf, lostFrameOf}
-use Rattle.receiver.specs.Slot.{shortBy, slotOf, lostSlotOf}
+use Rattle.frames.specs.Frame.{frameOf, lostFrameOf}
+use Rattle.frames.specs.Slot.{shortBy, slotOf, lostSlotOf}
 use Rattle.receiver.specs.Next.{nextOf}
 use Rattle.receiver.specs.Show.{memoryOf, showOf}
-
-abbrev pub IsRefused : Called → Type 0
-IsRefused r = r .refusal ≡ 0 → ⊥
-
--- what a refused call answers: a number of its row of the table, `first` to `last`, and the state that it was given
-pub record Kept (first last : ℕ) (st : State) (r : Called) : Type 0 where
-  pub number : (first ≤ r .refusal) × (r .refusal ≤ last)
-  pub state : r .state ≡ st
 
 pub record Demand1 : Type 0 where
   pub start : (st : State) (c : Config) → IsRefused (startFrom st c) → Kept 1 4 st (startFrom st c)

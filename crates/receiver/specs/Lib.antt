@@ -1,7 +1,4 @@
--- The definitions of the receiver's calls.
-pub mod Frame
-pub mod Slot
-pub mod Due
+-- The definitions of next and show, and demand 1 of all calls.
 pub mod Next
 pub mod ReadOn
 pub mod Turns

@@ -20,7 +20,7 @@ use Rattle.delivery.specs.declared.cursor.Found.{Found}
 use Rattle.delivery.specs.declared.cursor.Found.the-variants.{Event, Packet, Tail, Done}
 use Rattle.delivery.specs.Waiting.{Turn}
 use Rattle.intake.specs.Slot.{packetMemory, holding}
-use Rattle.receiver.specs.Slot.{shortBy}
+use Rattle.frames.specs.Slot.{shortBy}
 use Rattle.delivery.specs.Packet.{noteQueue, arrivedAt, joinedOf}
 use Rattle.delivery.specs.Cursor.{turnOf, left}
 

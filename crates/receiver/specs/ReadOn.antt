@@ -18,7 +18,7 @@ use Rattle.delivery.specs.declared.cursor.Found.the-variants.{Event, Packet, Ta
 use Rattle.intake.specs.Slot.{holding}
 use Rattle.delivery.specs.Packet.{arrivedAt, placeOf, receivedOf}
 use Rattle.delivery.specs.Within.{arrived-fits, length-received}
-use Rattle.receiver.specs.Slot.{shortBy}
+use Rattle.frames.specs.Slot.{shortBy}
 use Rattle.receiver.specs.Next.{
   NextOut,
   answered,

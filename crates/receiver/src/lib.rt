@@ -1,5 +1,3 @@
-// The receiver's calls behind start: frame, lost frame, slot, lost slot, next and show.
-pub mod frame;
+// The receiver: next and show, over start, frame and slot.
 pub mod next;
 pub mod show;
-pub mod slot;

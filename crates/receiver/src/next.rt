@@ -5,7 +5,7 @@ ghost use lib.ListN.{length};
 ghost use Rattle.intake.specs.Slot.{holding};
 ghost use Rattle.state.specs.Words.{stateWords, stateIn, Answers, Reads, Moves};
 ghost use Rattle.receiver.specs.Next.{readAll, nextOf};
-use crate::slot::is_short;
+use frames::slot::is_short;
 use state::places::CHANNELS;
 use state::places::CONFIG;
 use state::places::CURSOR;

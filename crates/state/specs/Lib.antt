@@ -1,8 +1,10 @@
 -- The state as a record, its words, and start.
 pub mod Tests
 pub mod State
+pub mod Refused
 pub mod Words
 pub mod Start
 pub mod Lent
 pub mod Clean
 pub mod Leaves
+pub mod Examples

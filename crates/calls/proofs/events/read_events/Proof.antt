@@ -9,7 +9,7 @@ use borrow.Author.Tests.{not-true, not-false}
 use lib.ListN.{length}
 use Rattle.delivery.specs.declared.event.Event.the-variants.{Nothing}
 use Rattle.state.specs.Words.{stateWords, stateIn, Exact}
-use Rattle.receiver.specs.Slot.{shortBy}
+use Rattle.frames.specs.Slot.{shortBy}
 use Rattle.receiver.specs.Next.{answered, nextOf, next-idle, next-reads, short-room}
 use Rattle.receiver.specs.ReadOn.{next-calm}
 use Rattle.state.specs.Clean.{exact-none, exact-on}

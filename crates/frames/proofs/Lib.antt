@@ -1,0 +1,2 @@
+-- What is proved of frames and slots beside the code.
+pub mod Refused

@@ -1,0 +1,2 @@
+-- What is proved of start beside its code.
+pub mod Refused
