@@ -15,7 +15,7 @@ use Rattle.tlv.specs.Notes.{numberOf}
 use Rattle.tlv.specs.Packet.{total, complete, tooLong, cut, packetAt, inFront}
 use Rattle.tlv.specs.Cuts.{complete-fits, cut-end, cut-more}
 use Rattle.delivery.specs.declared.cursor.Advanced.{Advanced}
-use Rattle.delivery.specs.declared.event.Event.the-variants.{Note}
+use Rattle.queue.specs.declared.event.Event.the-variants.{Note}
 use Rattle.delivery.specs.declared.cursor.Found.the-variants.{Event, Packet, Tail, Done}
 use Rattle.intake.specs.declared.held.Cursor.{Cursor}
 use Rattle.intake.specs.declared.held.Held.{Held}

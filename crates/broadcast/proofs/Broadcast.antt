@@ -72,7 +72,7 @@ use Rattle.frames.specs.Slot.{wrongLength}
 use Rattle.broadcast.specs.Account.{readOf, events, account}
 use Rattle.broadcast.specs.Carried.{inputs, rowInputs, carriedUnits, intactUnits, contents, Few}
 use Rattle.intake.specs.Slot.{packetMemory, heldBytes}
-use Rattle.delivery.specs.declared.event.Event.the-variants.{Nothing}
+use Rattle.queue.specs.declared.event.Event.the-variants.{Nothing}
 use Rattle.state.specs.State.{State}
 use Rattle.receiver.specs.Next.{nextOf}
 use Rattle.broadcast.specs.Drains.{Shown, note, unit, strip, Drains, stops, notes, units, HeldIs}

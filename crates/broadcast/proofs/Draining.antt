@@ -10,15 +10,15 @@ use Rattle.wire.specs.Memory.{partOf}
 use Rattle.tlv.specs.Run.{Labelled, Event as Slot-event, note as slot-note, packet as slot-packet, State as Slot-state}
 use Rattle.reassembly.specs.declared.config.Config.{Config}
 use Rattle.reassembly.specs.Run.{Lane, Event as Account-event}
-use Rattle.delivery.specs.declared.event.Event.{Event}
-use Rattle.delivery.specs.declared.event.Event.the-variants.{Nothing, Note, Unit, Refused}
+use Rattle.queue.specs.declared.event.Event.{Event}
+use Rattle.queue.specs.declared.event.Event.the-variants.{Nothing, Note, Unit, Refused}
 use Rattle.delivery.specs.declared.cursor.Found.{Found}
 use Rattle.delivery.specs.declared.cursor.Found.the-variants.{Event as AnEvent, Packet, Tail, Done}
 use Rattle.intake.specs.declared.held.Cursor.{Cursor}
 use Rattle.state.specs.State.{Frame, State, withSlot, withQueue}
-use Rattle.delivery.specs.Waiting.{Queue}
+use Rattle.queue.specs.Waiting.{Queue}
 use Rattle.intake.specs.Slot.{packetMemory, holding}
-use Rattle.delivery.specs.Queue.{eventTaken}
+use Rattle.queue.specs.Queue.{eventTaken}
 use Rattle.frames.specs.Slot.{shortBy}
 use Rattle.receiver.specs.Next.{NextOut, onwards, readOn, readAll, nextOf, past, packetOf}
 use Rattle.delivery.specs.Cursor.{advancedOf, turnBy, turnOf, left}

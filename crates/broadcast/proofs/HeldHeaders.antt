@@ -18,14 +18,14 @@ use Rattle.reassembly.specs.declared.config.Config.{Config}
 use Rattle.intake.specs.declared.held.Cursor.{Cursor}
 use Rattle.intake.specs.declared.held.Held.{Held}
 use Rattle.intake.specs.Slot.{packetMemory, searching, holding, noted, heldBytes}
-use Rattle.delivery.specs.declared.event.Event.{Event}
-use Rattle.delivery.specs.declared.event.Event.the-variants.{Nothing, Note, Unit, Refused}
+use Rattle.queue.specs.declared.event.Event.{Event}
+use Rattle.queue.specs.declared.event.Event.the-variants.{Nothing, Note, Unit, Refused}
 use Rattle.delivery.specs.declared.cursor.Found.{Found}
 use Rattle.delivery.specs.declared.cursor.Found.the-variants.{Event as AnEvent, Packet, Tail, Done}
-use Rattle.delivery.specs.Waiting.{Queue}
-use Rattle.delivery.specs.Choice.{by-test}
+use Rattle.queue.specs.Waiting.{Queue}
+use Rattle.wire.specs.Choice.{by-test}
 use Rattle.delivery.specs.Cursor.{advancedOf, turnBy, turnOf, left}
-use Rattle.delivery.specs.Queue.{eventTaken}
+use Rattle.queue.specs.Queue.{eventTaken}
 use Rattle.state.specs.State.{State, Called, withSlot, withQueue}
 use Rattle.state.specs.Start.{startRefusal, freshState, startOf, startFrom}
 use Rattle.frames.specs.Frame.{frameBusy, frameOf, lossOf, lostFrameOf, free}

@@ -14,7 +14,7 @@ use Rattle.reassembly.specs.declared.config.Config.{Config}
 use Rattle.reassembly.specs.Run.{Lane}
 use Rattle.intake.specs.Slot.{packetMemory}
 use Rattle.state.specs.State.{Frame, State}
-use Rattle.delivery.specs.Waiting.{Queue}
+use Rattle.queue.specs.Waiting.{Queue}
 use Rattle.frames.specs.Frame.{frameBusy, lossOf, lostFrameOf}
 use Rattle.frames.specs.Slot.{
   counted,

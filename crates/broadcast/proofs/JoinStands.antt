@@ -18,8 +18,9 @@ use Rattle.reassembly.specs.declared.channel.Phase.the-variants.{Unheard, Waiti
 use Rattle.reassembly.specs.declared.channel.OpenUnit.{OpenUnit}
 use Rattle.reassembly.specs.declared.join.Joined.{Joined}
 use Rattle.reassembly.specs.Run.{gathered, given}
-use Rattle.delivery.specs.declared.packet.Located.{Located}
-use Rattle.delivery.specs.Packet.{bytesAt, unitIn, unitLen, baseOf, collected, giveOf}
+use Rattle.queue.specs.declared.located.Located.{Located}
+use Rattle.delivery.specs.Packet.{bytesAt, unitIn, baseOf, collected, giveOf}
+use Rattle.queue.specs.Located.{unitLen}
 use Rattle.receiver.specs.Show.{showOf}
 use Rattle.broadcast.specs.Drains.{unit, strip, OpenIs}
 use Rattle.broadcast.specs.Pending.{givePending}

@@ -1,36 +1,15 @@
 -- How often next is called in a reading: once for each event of a slot or a lost frame, and once more.
-use Prim.Native.Nat.{ℕ, _-_, _≤_, _<_}
+use Prim.Native.Nat.{ℕ, _-_, _<_}
 use mathlib.Core.Path.{_≡_, sym, ap, _∙_, subst}
 use mathlib.Core.List.{List, [], _∷_}
 use native.Mathlib.Omega.{arith}
 use lib.ListN.{length}
-use Rattle.delivery.specs.declared.event.Event.the-variants.{Nothing, Note, Unit}
-use Rattle.delivery.specs.declared.event.Given.{Given}
+use Rattle.queue.specs.declared.event.Event.the-variants.{Nothing, Note, Unit}
+use Rattle.queue.specs.declared.event.Given.{Given}
 use Rattle.reassembly.specs.declared.config.Config.{Config}
 use Rattle.state.specs.State.{State}
 use Rattle.broadcast.specs.Drains.{Shown, Drains, stops, notes, units}
-use Rattle.broadcast.specs.Calls.{
-  Machine,
-  Call,
-  frame,
-  lost-frame,
-  slot,
-  lost-slot,
-  next,
-  accepted,
-  Did,
-  did,
-  Made,
-  own,
-  shows,
-  added,
-  Todo,
-  call,
-  drain,
-  show,
-  drainAfter,
-  Follows,
-}
+use Rattle.broadcast.specs.Calls.{Machine, Call, frame, lost-frame, slot, lost-slot, next, Did, did, Made, own, shows, added, Todo, call, drain, show, drainAfter, Follows}
 use Rattle.broadcast.specs.Bound.{NextsWithin}
 use Rattle.broadcast.proofs.Refusals.{did-refused}
 use Rattle.broadcast.proofs.Script.{machine, did-next, not-done}

@@ -14,8 +14,9 @@ use Rattle.mmtp.specs.Unit.{Piece, pieceAt, singleUnit, single-next, aggregate,
 use Rattle.reassembly.specs.declared.join.Piece.{Piece as JoinPiece}
 use Rattle.reassembly.specs.Unit.{carried}
 use Rattle.reassembly.specs.Run.{Input, labelled}
-use Rattle.delivery.specs.declared.packet.Located.{Located}
-use Rattle.delivery.specs.Packet.{bytesAt, firstUnit, unitIn, unitLen, pieceFrom, wholesOf}
+use Rattle.queue.specs.declared.located.Located.{Located}
+use Rattle.delivery.specs.Packet.{bytesAt, firstUnit, unitIn, pieceFrom, wholesOf}
+use Rattle.queue.specs.Located.{unitLen}
 use Rattle.receiver.specs.Show.{showOf}
 use Rattle.broadcast.specs.Account.{noPiece, firstOr, pieceOf as joinPieceOf, contentOf, inputFrom}
 use Rattle.broadcast.specs.Drains.{Shown, unit, strip}

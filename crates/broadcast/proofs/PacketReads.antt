@@ -27,11 +27,11 @@ use Rattle.reassembly.specs.declared.note.JoinNote.the-variants.{AboveLimit}
 use Rattle.reassembly.specs.Notes.{numberOf}
 use Rattle.reassembly.specs.Join.{notesOf}
 use Rattle.reassembly.specs.Run.{Input, Event, note as account-note, Lane, laneAfter, eventsOf, step, withLane}
-use Rattle.delivery.specs.declared.packet.Located.{Located}
+use Rattle.queue.specs.declared.located.Located.{Located}
 use Rattle.delivery.specs.declared.packet.Arrived.the-variants.{Good}
-use Rattle.delivery.specs.Waiting.{Queue}
+use Rattle.queue.specs.Waiting.{Queue}
 use Rattle.state.specs.State.{State, withQueue, withChannels}
-use Rattle.delivery.specs.Queue.{empty}
+use Rattle.queue.specs.Queue.{empty}
 use Rattle.delivery.specs.Packet.{bytesAt, unitIn, baseOf, stepOf, queueOf, joinedOf, arrivedAt, readBy, flowBy}
 use Rattle.receiver.specs.Next.{arrivedBy, packetOf}
 use Rattle.broadcast.specs.Account.{

@@ -11,8 +11,8 @@ use Rattle.wire.specs.Memory.{partOf}
 use Rattle.mmtp.specs.declared.unit.DataUnit.{DataUnit}
 use Rattle.mmtp.specs.declared.unit.Step.the-variants.{End}
 use Rattle.mmtp.specs.Unit.{unitAt, dataUnit, aggregate-none, aggregate-next, pieceAt}
-use Rattle.delivery.specs.Waiting.{Aggregate, Give, Nothing as NoUnit, One, Many, Queue}
-use Rattle.delivery.specs.Queue.{eventTaken, giveBy}
+use Rattle.queue.specs.Waiting.{Aggregate, Give, Nothing as NoUnit, One, Many, Queue}
+use Rattle.queue.specs.Queue.{eventTaken, giveBy}
 use Rattle.receiver.specs.Show.{showOf}
 use Rattle.broadcast.specs.Drains.{unit}
 use Rattle.broadcast.specs.Pending.{queuePending}

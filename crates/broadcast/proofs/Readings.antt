@@ -16,7 +16,7 @@ use Rattle.reassembly.specs.declared.config.Config.{Config}
 use Rattle.reassembly.specs.Run.{Lane, fresh}
 use Rattle.intake.specs.Slot.{packetMemory}
 use Rattle.state.specs.State.{Frame as ReceiverFrame, State, accepted as acceptedAs, refused as refusedWith}
-use Rattle.delivery.specs.declared.event.Event.the-variants.{Nothing, Refused}
+use Rattle.queue.specs.declared.event.Event.the-variants.{Nothing, Refused}
 use Rattle.receiver.specs.Next.{answered, readOn, readAll, nextOf}
 use Rattle.delivery.specs.Cursor.{left}
 use Rattle.frames.specs.Slot.{wrongLength, slotOf, lostSlotOf, lossTaken, dueOwn, shortBy, slotRefusal}

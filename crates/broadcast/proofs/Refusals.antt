@@ -1,10 +1,9 @@
 -- In a list of calls a refused one leaves the machine as it was: demand 1, call by call.
 use Prim.Native.Nat.{ℕ}
 use mathlib.Core.Path.{_≡_, refl, ap}
-use mathlib.Core.List.{List}
 use lib.ListN.{length}
-use Rattle.delivery.specs.declared.event.Event.{Event}
-use Rattle.delivery.specs.declared.event.Event.the-variants.{Nothing, Note, Unit, Refused}
+use Rattle.queue.specs.declared.event.Event.{Event}
+use Rattle.queue.specs.declared.event.Event.the-variants.{Nothing, Note, Unit, Refused}
 use Rattle.receiver.proofs.Demand1.{demand-1}
 use Rattle.broadcast.specs.Calls.{
   Machine,

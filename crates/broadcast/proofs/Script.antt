@@ -3,8 +3,8 @@ use Prim.Native.Nat.{ℕ}
 use mathlib.Core.Path.{_≡_, refl, sym, ap, _∙_, subst}
 use mathlib.Core.List.{List, [], _∷_, _++_}
 use native.Mathlib.Omega.{arith}
-use Rattle.delivery.specs.declared.event.Event.the-variants.{Nothing, Note, Unit}
-use Rattle.delivery.specs.declared.event.Given.{Given}
+use Rattle.queue.specs.declared.event.Event.the-variants.{Nothing, Note, Unit}
+use Rattle.queue.specs.declared.event.Given.{Given}
 use Rattle.state.specs.State.{Answer as NextAnswer, State}
 use Rattle.receiver.specs.Next.{nextOf}
 use Rattle.broadcast.specs.Drains.{Shown, note, shown, Drains, stops, notes, units}

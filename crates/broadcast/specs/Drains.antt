@@ -13,12 +13,12 @@ use Rattle.reassembly.specs.declared.channel.Phase.{Phase}
 use Rattle.reassembly.specs.declared.channel.Phase.the-variants.{Unheard, Waiting, Idle, Open}
 use Rattle.reassembly.specs.Channel.{unheard}
 use Rattle.reassembly.specs.Run.{Content, Event as Account-event, note as account-note, unit as account-unit, Lane}
-use Rattle.delivery.specs.declared.event.Event.the-variants.{Nothing, Note, Unit}
-use Rattle.delivery.specs.declared.event.Given.{Given}
+use Rattle.queue.specs.declared.event.Event.the-variants.{Nothing, Note, Unit}
+use Rattle.queue.specs.declared.event.Given.{Given}
 use Rattle.intake.specs.declared.held.Held.{Held}
 use Rattle.state.specs.State.{State}
 use Rattle.intake.specs.Slot.{packetMemory, noted, heldBytes}
-use Rattle.delivery.specs.Queue.{empty}
+use Rattle.queue.specs.Queue.{empty}
 use Rattle.receiver.specs.Next.{nextOf}
 use Rattle.receiver.specs.Show.{showOf}
 

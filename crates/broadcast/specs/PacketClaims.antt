@@ -9,11 +9,11 @@ use Rattle.mmtp.specs.Unit.{aggregate}
 use Rattle.reassembly.specs.declared.config.Config.{Config}
 use Rattle.reassembly.specs.Channel.{unheard}
 use Rattle.reassembly.specs.Run.{Lane}
-use Rattle.delivery.specs.declared.event.Event.{Event}
-use Rattle.delivery.specs.declared.event.Event.the-variants.{Nothing, Note, Unit, Refused}
-use Rattle.delivery.specs.Waiting.{Give, Nothing as NoUnit, One, Many, Queue}
+use Rattle.queue.specs.declared.event.Event.{Event}
+use Rattle.queue.specs.declared.event.Event.the-variants.{Nothing, Note, Unit, Refused}
+use Rattle.queue.specs.Waiting.{Give, Nothing as NoUnit, One, Many, Queue}
 use Rattle.state.specs.State.{State}
-use Rattle.delivery.specs.Queue.{empty, eventTaken}
+use Rattle.queue.specs.Queue.{empty, eventTaken}
 use Rattle.receiver.specs.Next.{packetOf}
 use Rattle.broadcast.specs.Account.{After, readOf, afterRead}
 use Rattle.broadcast.specs.Drains.{note, shown, strip, LaneIs}

@@ -13,7 +13,7 @@ use Rattle.mmtp.specs.Unit.{Piece, aggregate}
 use Rattle.reassembly.specs.declared.note.JoinNote.the-variants.{AboveLimit}
 use Rattle.reassembly.specs.Notes as joining
 use Rattle.reassembly.specs.Unit.{carried}
-use Rattle.delivery.specs.Waiting.{Aggregate, Give, Nothing, One, Many, Queue}
+use Rattle.queue.specs.Waiting.{Aggregate, Give, Nothing, One, Many, Queue}
 use Rattle.intake.specs.declared.held.Cursor.{Cursor}
 use Rattle.intake.specs.declared.held.Held.{Held}
 use Rattle.intake.specs.Slot.{searching, holding}

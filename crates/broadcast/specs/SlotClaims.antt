@@ -11,8 +11,8 @@ use Rattle.tlv.specs.Run.{Slot, State as Slot-state, searching as slot-searchin
 use Rattle.reassembly.specs.declared.config.Config.{Config}
 use Rattle.reassembly.specs.Run.{Lane}
 use Rattle.delivery.specs.declared.cursor.Found.{Found}
-use Rattle.delivery.specs.declared.event.Event.{Event as AnEvent}
-use Rattle.delivery.specs.declared.event.Event.the-variants.{Nothing, Note, Unit as Given-unit, Refused}
+use Rattle.queue.specs.declared.event.Event.{Event as AnEvent}
+use Rattle.queue.specs.declared.event.Event.the-variants.{Nothing, Note, Unit as Given-unit, Refused}
 use Rattle.delivery.specs.declared.cursor.Found.the-variants.{Event, Packet, Tail, Done}
 use Rattle.intake.specs.declared.held.Cursor.{Cursor}
 use Rattle.state.specs.State.{Frame, State}

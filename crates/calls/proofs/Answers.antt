@@ -1,14 +1,13 @@
 -- Why the calls over plain words answer as is claimed, and a refused one leaves all that it was lent.
-use Prim.Native.Nat.{ℕ, _≤_}
-use mathlib.Core.Path.{_≡_, refl, sym, _∙_, ap}
+use Prim.Native.Nat.{ℕ}
+use mathlib.Core.Path.{_≡_, refl, sym, _∙_}
 use mathlib.Core.Bool.{Bool, true, false, true≢false}
-use mathlib.Core.Logic.{_⊎_, inl, inr}
+use mathlib.Core.Logic.{inl, inr}
 use mathlib.Core.List.{List}
 use native.Mathlib.Omega.{arith}
 use borrow.Author.Tests.{ltb-true, ltb-false, eqb-true, eqb-false}
 use lib.Dec.{eqb, ltb}
 use lib.ListN.{length}
-use Rattle.delivery.specs.declared.event.Event.{Event}
 use Rattle.state.specs.State.{State}
 use Rattle.frames.specs.Slot.{shortBy}
 use Rattle.receiver.specs.Next.{nextOf, next-short}

@@ -1,12 +1,12 @@
 -- Why many events for one call are what next gives, called that many times.
-use Prim.Native.Nat.{ℕ, zero, suc, _<_, _≤_}
+use Prim.Native.Nat.{ℕ, zero, suc}
 use mathlib.Core.Path.{_≡_, refl, sym, _∙_, ap}
 use mathlib.Core.Bool.{Bool, true, false, true≢false}
 use mathlib.Core.Logic.{_⊎_, inl, inr}
-use mathlib.Core.List.{List, [], _∷_, _++_}
+use mathlib.Core.List.{List, [], _∷_}
 use native.Mathlib.Omega.{arith}
 use lib.ListN.{length}
-use Rattle.delivery.specs.declared.event.Event.{Event}
+use Rattle.queue.specs.declared.event.Event.{Event}
 use Rattle.state.specs.State.{State}
 use Rattle.receiver.specs.Next.{NextOut, nextOf}
 use Rattle.calls.specs.Events.{Many, none, behind, isGiven, isJoined, eventsOf}

@@ -1,13 +1,12 @@
 -- Why settings that are written for a configuration are taken for it, and which word of a record is which.
-use Prim.Native.Nat.{ℕ, zero, suc, _+_, _<_, _≤_}
-use mathlib.Core.Path.{_≡_, refl, sym, _∙_, ap}
-use mathlib.Core.Bool.{Bool, true, false, _&&_}
+use Prim.Native.Nat.{ℕ, zero, suc, _<_, _≤_}
+use mathlib.Core.Path.{_≡_, refl, _∙_, ap}
+use mathlib.Core.Bool.{true}
 use mathlib.Core.List.{List, [], _∷_, _++_}
 use native.Mathlib.Nat.{zero-add}
 use native.Mathlib.Omega.{arith}
 use borrow.Author.Tests.{le-leb}
-use lib.Dec.{leb}
-use lib.ListN.{length, getD, replicate, length-append}
+use lib.ListN.{length, getD, replicate}
 use Rattle.wire.specs.Words.{holds-front, holds-put}
 use Rattle.reassembly.specs.declared.config.Config.{Config}
 use Rattle.words.specs.Channel.{SizedConfig, readConfig, configWords, unitWords, fieldWords, length-config, config-put}

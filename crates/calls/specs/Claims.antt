@@ -9,8 +9,8 @@ use lib.ListN.{length, replicate}
 use Rattle.wire.specs.Memory.{pasted}
 use Rattle.reassembly.specs.declared.config.Config.{Config}
 use Rattle.words.specs.Channel.{SizedConfig, readConfig}
-use Rattle.delivery.specs.declared.event.Event.{Event}
-use Rattle.delivery.specs.declared.event.Given.{Given}
+use Rattle.queue.specs.declared.event.Event.{Event}
+use Rattle.queue.specs.declared.event.Given.{Given}
 use Rattle.state.specs.State.{State, refused}
 use Rattle.frames.specs.Slot.{shortBy}
 use Rattle.receiver.specs.Next.{nextOf}

@@ -9,16 +9,15 @@ use Rattle.wire.specs.Tab.{tab}
 use Rattle.wire.specs.Words.{putFrom}
 use Rattle.tmcc.specs.Layout.{blankLayout}
 use Rattle.mmtp.specs.Watch.{firstFrom, lookupOf}
-use Rattle.reassembly.specs.declared.config.Config.{Config}
 use Rattle.reassembly.specs.Channel.{unheard}
-use Rattle.words.specs.Channel.{readIds, readConfig, configWords, readFields, readUnit, fieldWords, unitWords}
+use Rattle.words.specs.Channel.{readIds, readConfig, readFields, readUnit, fieldWords, unitWords}
 use Rattle.intake.specs.Slot.{noted}
-use Rattle.delivery.specs.declared.event.Memory.{Memory}
-use Rattle.delivery.specs.declared.event.Memory.the-variants.{Packet, Collecting}
-use Rattle.delivery.specs.declared.event.Given.{Given}
-use Rattle.delivery.specs.declared.event.Event.the-variants.{Nothing, Note, Unit}
-use Rattle.delivery.specs.Waiting.{One}
-use Rattle.delivery.specs.Queue.{empty, giving, eventTaken}
+use Rattle.queue.specs.declared.event.Memory.{Memory}
+use Rattle.queue.specs.declared.event.Memory.the-variants.{Packet, Collecting}
+use Rattle.queue.specs.declared.event.Given.{Given}
+use Rattle.queue.specs.declared.event.Event.the-variants.{Nothing, Note, Unit}
+use Rattle.queue.specs.Waiting.{One}
+use Rattle.queue.specs.Queue.{empty, giving, eventTaken}
 use Rattle.delivery.specs.Cursor.{turnOf, advancedOf, left}
 use Rattle.state.specs.State.{State, withOwed, withSlot, withQueue, refused}
 use Rattle.state.specs.Start.{before, twiceBelow, twice, freshState, startRefusal, startFrom}

@@ -1,7 +1,7 @@
 -- An event as a record of 24 words: what it is, a note's number, the place of a unit's bytes, what a unit carries (of a note its
 -- packet_id), and words for later fields, which are 0. Reading is total; what is written is read back.
 use Prim.Native.Nat.{ℕ, _+_, _%_, _<_, _≤_}
-use mathlib.Core.Path.{_≡_, refl, _∙_, ap}
+use mathlib.Core.Path.{_≡_, refl, ap}
 use mathlib.Core.Bool.{Bool, true, false, cond, _&&_, and-eq-true-iff}
 use mathlib.Core.List.{List, [], _∷_, _++_}
 use native.Mathlib.Nat.{add-zero, zero-add, mod-eq-of-lt}
@@ -10,13 +10,13 @@ use borrow.Author.Tests.{le-leb}
 use lib.Dec.{eqb, leb}
 use lib.ListN.{length, getD, replicate, length-append}
 use Rattle.wire.specs.Words.{Put, holds-front, holds-behind, holds-put}
-use Rattle.words.specs.Channel.{readUnit, unitWords, fieldWords, SizedUnit, UnitStored, length-unit, unit-put}
-use Rattle.delivery.specs.declared.event.Memory.{Memory}
-use Rattle.delivery.specs.declared.event.Memory.the-variants.{Packet, Collecting}
-use Rattle.delivery.specs.declared.event.Place.{Place}
-use Rattle.delivery.specs.declared.event.Given.{Given}
-use Rattle.delivery.specs.declared.event.Event.{Event}
-use Rattle.delivery.specs.declared.event.Event.the-variants.{Nothing, Note, Unit as UnitGiven, Refused}
+use Rattle.words.specs.Channel.{readUnit, unitWords, fieldWords, SizedUnit, length-unit, unit-put}
+use Rattle.queue.specs.declared.event.Memory.{Memory}
+use Rattle.queue.specs.declared.event.Memory.the-variants.{Packet, Collecting}
+use Rattle.queue.specs.declared.event.Place.{Place}
+use Rattle.queue.specs.declared.event.Given.{Given}
+use Rattle.queue.specs.declared.event.Event.{Event}
+use Rattle.queue.specs.declared.event.Event.the-variants.{Nothing, Note, Unit as UnitGiven, Refused}
 use Rattle.calls.specs.Bounds.{areWithin, within-enough}
 use Rattle.calls.specs.Settings.{most8, most16, most32, most64}
 

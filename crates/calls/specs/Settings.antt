@@ -1,10 +1,10 @@
 -- Start's settings in words: stream id, CID, n, R, sixteen packet_ids, and twelve words for later settings, which are 0.
-use Prim.Native.Nat.{ℕ, _<_, _≤_}
+use Prim.Native.Nat.{ℕ, _≤_}
 use mathlib.Core.Path.{_≡_}
 use mathlib.Core.Bool.{true, false, cond}
-use mathlib.Core.List.{List, [], _∷_, _++_}
+use mathlib.Core.List.{List, _∷_, _++_}
 use lib.ListN.{length, replicate}
-use Rattle.words.specs.Channel.{readConfig, configWords}
+use Rattle.words.specs.Channel.{readConfig}
 use Rattle.state.specs.State.{State, Called, refused}
 use Rattle.state.specs.Start.{startFrom}
 use Rattle.calls.specs.Bounds.{areWithin, within-enough}

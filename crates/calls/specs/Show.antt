@@ -7,8 +7,8 @@ use borrow.Author.Tests.{lt-ltb, le-ltb}
 use lib.Dec.{ltb}
 use lib.ListN.{length}
 use Rattle.wire.specs.Memory.{pasted, partOf}
-use Rattle.delivery.specs.declared.event.Memory.the-variants.{Packet, Collecting}
-use Rattle.delivery.specs.declared.event.Place.{Place}
+use Rattle.queue.specs.declared.event.Memory.the-variants.{Packet, Collecting}
+use Rattle.queue.specs.declared.event.Place.{Place}
 use Rattle.receiver.specs.Show.{showOf}
 use Rattle.calls.specs.Record.{recordWords, readPlace}
 

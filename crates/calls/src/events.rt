@@ -9,16 +9,16 @@ ghost use Rattle.calls.specs.Events.{refusalOf, isGiven, isCollecting, i
 ghost use Rattle.calls.specs.Words.{NextDone, EventsGiven, EventsDone};
 use crate::record::RECORD_WORDS;
 use crate::record::put_event;
-use delivery::event::Event;
-use delivery::event::Given;
-use delivery::event::Memory;
-use words::channel::load_config;
+use frames::slot::is_short;
+use queue::event::Event;
+use queue::event::Given;
+use queue::event::Memory;
 use receiver::next::next;
 use receiver::next::read_on;
-use frames::slot::is_short;
 use state::places::CONFIG;
 use state::places::STATE_WORDS;
 use state::places::is_owed;
+use words::channel::load_config;
 
 // The number of a refused next, else 0.
 fn refusal(event: Event) -> u8

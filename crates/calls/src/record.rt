@@ -7,10 +7,10 @@ ghost use Rattle.wire.specs.Words.{Put};
 ghost use Rattle.calls.specs.Record.{memoryWord, memoryOf, noteRecord, unitRecord, readPlace, isUnitRecord};
 ghost use Rattle.calls.specs.Record.{NoteStored, UnitRecordStored, EventStored};
 use crate::bounds::are_within;
-use delivery::event::Event;
-use delivery::event::Given;
-use delivery::event::Memory;
-use delivery::event::Place;
+use queue::event::Event;
+use queue::event::Given;
+use queue::event::Memory;
+use queue::event::Place;
 use words::channel::store_unit;
 
 // What it is; a note's number; a unit's place; what a unit carries, of a note its packet_id; words for later fields.

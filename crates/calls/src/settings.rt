@@ -4,9 +4,9 @@ ghost use Rattle.state.specs.Words.{stateIn, Starts};
 ghost use Rattle.calls.specs.Bounds.{areWithin};
 ghost use Rattle.calls.specs.Settings.{settingsMost, startBy};
 use crate::bounds::are_within;
-use words::channel::load_config;
-use state::start::start;
 use state::places::STATE_WORDS;
+use state::start::start;
+use words::channel::load_config;
 
 // Whether there are 32 words, each one that its setting can have: stream id, CID, n, R, sixteen packet_ids, and zeros.
 fn are_settings(settings: &[u64]) -> bool

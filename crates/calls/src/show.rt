@@ -4,7 +4,7 @@ ghost use Rattle.wire.specs.Memory.{partOf};
 ghost use Rattle.calls.specs.Show.{copied, showCall};
 use crate::record::RECORD_WORDS;
 use crate::record::load_place;
-use delivery::event::Memory;
+use queue::event::Memory;
 
 // The `n` bytes of `memory` from `start` come to the front of `output`, and their number to `len`; none where one lies outside.
 fn copy_part(memory: &[u8], start: usize, n: usize, output: &mut [u8], len: &mut u64) -> u8

@@ -11,14 +11,14 @@ use Rattle.tlv.specs.declared.packet.Next.{Next}
 use Rattle.tlv.specs.declared.packet.Next.the-variants.{Packet as PacketTo, Tail as TailAt}
 use Rattle.tlv.specs.Packet.{packetAt, tooLong}
 use Rattle.intake.specs.declared.held.Cursor.{Cursor}
-use Rattle.delivery.specs.Choice.{by-test}
-use Rattle.delivery.specs.declared.event.Event.{Event as AnEvent}
-use Rattle.delivery.specs.declared.event.Event.the-variants.{Nothing, Note, Unit, Refused}
-use Rattle.delivery.specs.Waiting.{Queue}
+use Rattle.wire.specs.Choice.{by-test}
+use Rattle.queue.specs.declared.event.Event.{Event as AnEvent}
+use Rattle.queue.specs.declared.event.Event.the-variants.{Nothing, Note, Unit, Refused}
+use Rattle.queue.specs.Waiting.{Queue}
 use Rattle.delivery.specs.declared.cursor.Found.{Found}
 use Rattle.delivery.specs.declared.cursor.Found.the-variants.{Event, Packet, Tail, Done}
 use Rattle.delivery.specs.declared.cursor.Advanced.{Advanced}
-use Rattle.delivery.specs.Queue.{eventTaken}
+use Rattle.queue.specs.Queue.{eventTaken}
 use Rattle.delivery.specs.Cursor.{left, isEvent, advancedBy, advancedOf, slotAdvanced, tailAdvanced, turnBy, turnOf, turn-less}
 use Rattle.state.specs.State.{State}
 use Rattle.receiver.specs.Next.{NextOut, past, onwards, packetOf, readOn, readAll}

@@ -18,12 +18,12 @@ use Rattle.mmtp.specs.declared.unit.Step.the-variants.{Unit as UnitAt, Malforme
 use Rattle.mmtp.specs.Cases.{chose, chose-not}
 use Rattle.mmtp.specs.Unit.{unitAt, dataUnit, unitFits, unit-fits-end}
 use Rattle.intake.specs.declared.held.Cursor.{Cursor}
-use Rattle.delivery.specs.Waiting.{Aggregate, Give, Nothing, One, Many, Queue, Taken}
+use Rattle.queue.specs.Waiting.{Aggregate, Give, Nothing, One, Many, Queue, Taken}
 use Rattle.delivery.specs.declared.cursor.Found.{Found}
 use Rattle.delivery.specs.declared.cursor.Found.the-variants.{Event, Packet, Tail, Done}
 use Rattle.delivery.specs.declared.cursor.Advanced.{Advanced}
-use Rattle.delivery.specs.Within.{part-within}
-use Rattle.delivery.specs.Queue.{eventTaken, nextUnit, taken-note, taken-over, taken-nothing, taken-one, taken-many}
+use Rattle.wire.specs.Memory.{part-within}
+use Rattle.queue.specs.Queue.{eventTaken, nextUnit, taken-note, taken-over, taken-nothing, taken-one, taken-many}
 use Rattle.delivery.specs.Cursor.{one, span, left, isEvent, goesOn, advancedOf, slotAdvanced, tailAdvanced, turnOf, turn-event}
 use Rattle.delivery.specs.Cursor.{turn-on, advanced-less, advanced-note, advanced-packet, advanced-slot, advanced-done}
 use Rattle.delivery.specs.Cursor.{slot-packet, slot-tail}

@@ -4,8 +4,8 @@ use mathlib.Core.Path.{_≡_, refl, ap}
 use mathlib.Core.Bool.{Bool, false}
 use mathlib.Core.List.{List}
 use lib.ListN.{length}
-use Rattle.delivery.specs.declared.event.Event.{Event}
-use Rattle.delivery.specs.declared.event.Event.the-variants.{Nothing, Note, Unit, Refused}
+use Rattle.queue.specs.declared.event.Event.{Event}
+use Rattle.queue.specs.declared.event.Event.the-variants.{Nothing, Note, Unit, Refused}
 use Rattle.state.specs.State.{State, Called, withOwed}
 use Rattle.state.specs.Words.{stateWords, stateIn, Clean, Exact}
 use Rattle.capture.specs.declared.session.Session.{Session as Values}

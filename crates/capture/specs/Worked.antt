@@ -26,7 +26,7 @@ use Rattle.reassembly.specs.Channel.{nextPsn, heard, gap, unheard}
 use Rattle.reassembly.specs.Join.{interrupted, begun, acted, joinOf}
 use Rattle.intake.specs.Slot.{cursorFrom, resumedAs, movedMem, continuedMem, resumedMem, copied, resumedOf, intakeOf, lostOf}
 use Rattle.delivery.specs.Packet.{arrivedAt, firstUnit, collected, giveOf, joinedOf}
-use Rattle.delivery.specs.Queue.{eventTaken}
+use Rattle.queue.specs.Queue.{eventTaken}
 use Rattle.delivery.specs.Cursor.{turnOf, advancedOf, slotAdvanced, tailAdvanced, left}
 use Rattle.state.specs.Start.{before, twiceBelow, twice, freshState, startRefusal, startFrom}
 use Rattle.frames.specs.Frame.{frameBusy, frameOf, lossOf, lostFrameOf}

@@ -10,8 +10,8 @@ use lines::line::put_end;
 use mmtp::watch::Watch;
 use reassembly::config::Config;
 use reassembly::config::Rules;
-use state::start::put_fresh;
 use state::places::STATE_WORDS;
+use state::start::put_fresh;
 
 // Nothing read. A state memory under 751 words is left as it is: then nothing will be read.
 pub fn begin(words: &mut [u64]) -> Session

@@ -14,17 +14,17 @@ use crate::session::Progress;
 use crate::session::Session;
 use crate::session::Tally;
 use crate::session::end;
-use delivery::event::Event;
 use lines::line::LONGEST;
 use lines::line::is_line;
 use lines::line::put_note;
 use lines::line::put_refused;
 use lines::line::put_unit;
-use words::channel::load_config;
+use queue::event::Event;
 use receiver::next::read_on;
 use state::places::CONFIG;
 use state::places::STATE_WORDS;
 use state::places::is_owed;
+use words::channel::load_config;
 
 // Whether there is room for a longest line from `at` on.
 pub fn has_room(size: usize, at: usize) -> bool

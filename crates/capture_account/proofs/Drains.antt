@@ -5,7 +5,7 @@ use mathlib.Core.Bool.{Bool, true, false}
 use mathlib.Core.List.{List, [], _∷_}
 use native.Mathlib.Omega.{arith}
 use lib.ListN.{length}
-use Rattle.delivery.specs.declared.event.Event.the-variants.{Nothing, Note, Unit, Refused}
+use Rattle.queue.specs.declared.event.Event.the-variants.{Nothing, Note, Unit, Refused}
 use Rattle.state.specs.State.{Answer, State, withOwed}
 use Rattle.frames.specs.Slot.{shortBy}
 use Rattle.receiver.specs.Show.{showOf}

@@ -9,7 +9,7 @@ use lib.ListN.{length, getD, take, drop}
 use borrow.Author.Tests.{eqb-true, eqb-false, ne-eqb, ltb-false}
 use Rattle.tmcc.specs.Block.{decodeOf}
 use Rattle.reassembly.specs.declared.config.Config.{Config}
-use Rattle.delivery.specs.Choice.{neither}
+use Rattle.wire.specs.Choice.{neither}
 use Rattle.state.specs.State.{Called, State, withFrame, refused as refusedWith, accepted as acceptedAs}
 use Rattle.state.specs.Start.{freshState}
 use Rattle.frames.specs.Frame.{frameBusy, frameOf, lossOf, lostFrameOf, frame-short, frame-busy, frame-refused, frame-accepted}

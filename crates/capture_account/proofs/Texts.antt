@@ -6,8 +6,8 @@ use mathlib.Core.List.{List, [], _∷_, _++_, append-assoc}
 use lib.ListN.{length, getD, take, drop}
 use lib.Dec.{eqb}
 use borrow.Author.Tests.{not-true}
-use Rattle.delivery.specs.declared.event.Event.{Event}
-use Rattle.delivery.specs.declared.event.Event.the-variants.{Nothing, Note, Unit, Refused}
+use Rattle.queue.specs.declared.event.Event.{Event}
+use Rattle.queue.specs.declared.event.Event.the-variants.{Nothing, Note, Unit, Refused}
 use Rattle.state.specs.State.{Called}
 use Rattle.receiver.specs.Next.{nextOf}
 use Rattle.lines.specs.Line.{unitLine, refusedLine}

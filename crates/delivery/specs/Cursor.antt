@@ -6,26 +6,26 @@ use mathlib.Core.List.{List}
 use lib.ListN.{length, drop, length-drop}
 use borrow.Author.Tests.{eq-eqb, ne-eqb, eqb-true, eqb-false}
 use lib.Dec.{eqb}
-use Rattle.delivery.specs.Choice.{chosen, chosen-not}
+use Rattle.wire.specs.Choice.{chosen, chosen-not}
 use Rattle.wire.specs.Memory.{partOf}
 use Rattle.tlv.specs.declared.packet.Next.{Next}
 use Rattle.tlv.specs.declared.packet.Next.the-variants.{Packet as PacketTo, Tail as TailAt}
 use Rattle.tlv.specs.declared.note.SlotNote.the-variants.{TooLong}
 use Rattle.tlv.specs.Notes.{numberOf}
 use Rattle.tlv.specs.Packet.{packetAt, tooLong, complete, total}
-use Rattle.delivery.specs.declared.event.Event.{Event as AnEvent}
-use Rattle.delivery.specs.declared.event.Event.the-variants.{Nothing, Note, Unit, Refused}
+use Rattle.queue.specs.declared.event.Event.{Event as AnEvent}
+use Rattle.queue.specs.declared.event.Event.the-variants.{Nothing, Note, Unit, Refused}
 use Rattle.intake.specs.declared.held.Cursor.{Cursor}
 use Rattle.intake.specs.Slot.{noted}
-use Rattle.delivery.specs.Waiting.{Queue, Turn}
+use Rattle.queue.specs.Waiting.{Queue}
 use Rattle.delivery.specs.declared.cursor.Found.{Found}
 use Rattle.delivery.specs.declared.cursor.Found.the-variants.{Event, Packet, Tail, Done}
 use Rattle.delivery.specs.declared.cursor.Advanced.{Advanced}
-use Rattle.delivery.specs.Queue.{eventTaken}
+use Rattle.queue.specs.Queue.{eventTaken}
 use native.Mathlib.Omega.{arith}
 use Rattle.tlv.specs.Cuts.{complete-fits}
 use Rattle.mmtp.specs.Cases.{chose}
-use Rattle.delivery.specs.Within.{part-length}
+use Rattle.wire.specs.Memory.{part-length}
 
 -- "a tail is held, but one whose known total is above 16,384 gives 43"
 unfoldable pub tailAdvanced : List ℕ → ℕ → ℕ → Advanced
@@ -56,6 +56,12 @@ advancedOf c p =
       found = Event (Note (c .note) 0);
       cursor = record { note = 0; packet = c .packet; reading = c .reading; at = c .at; end = c .end };
     })
+
+-- what next comes to, and the queue and the cursor past it
+pub record Turn : Type 0 where
+  pub found : Found
+  pub queue : Queue
+  pub cursor : Cursor
 
 -- what the queue gives, or where it is empty what the cursor comes to, and the queue and the cursor past it
 abbrev pub turnBy : AnEvent → Queue → Cursor → List ℕ → Turn

@@ -30,34 +30,13 @@ use Rattle.words.specs.Channel.{
   channel-same,
   channel-clean,
 }
-use Rattle.delivery.specs.declared.packet.Located.{Located}
+use Rattle.queue.specs.declared.located.Located.{Located}
 use Rattle.delivery.specs.declared.packet.Arrived.the-variants.{Silent, Noted, Good}
-use Rattle.delivery.specs.Choice.{by-test}
-use Rattle.delivery.specs.Waiting.{Give, Nothing}
-use Rattle.delivery.specs.Packet.{
-  arrivedAt,
-  bytesAt,
-  unitIn,
-  pieceFrom,
-  stepOf,
-  baseOf,
-  collected,
-  giveOf,
-  joinedOf,
-  receivedOf,
-}
-use Rattle.delivery.specs.Words.{
-  giveWords,
-  NotesStored,
-  GiveStored,
-  CleanChannel,
-  Keeps,
-  Joins,
-  Receives,
-  channelPlace,
-  queue-put,
-  queue-clean,
-}
+use Rattle.wire.specs.Choice.{by-test}
+use Rattle.queue.specs.Waiting.{Give, Nothing}
+use Rattle.delivery.specs.Packet.{arrivedAt, bytesAt, unitIn, pieceFrom, stepOf, baseOf, collected, giveOf, joinedOf, receivedOf}
+use Rattle.queue.specs.Words.{giveWords, NotesStored, GiveStored, queue-put, queue-clean}
+use Rattle.delivery.specs.Words.{CleanChannel, Keeps, Joins, Receives, channelPlace}
 
 -- FI 00 leaves the current unit as it was
 pub whole-current : (ch : Channel) (p : Piece) (rules : Rules) → p .indicator ≡ Whole

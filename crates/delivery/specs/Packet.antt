@@ -28,10 +28,11 @@ use Rattle.reassembly.specs.declared.join.Action.{Action}
 use Rattle.reassembly.specs.declared.join.Action.the-variants.{Nothing as NoAction, Whole, Store, Complete}
 use Rattle.reassembly.specs.Unit.{carried}
 use Rattle.reassembly.specs.Join.{joinOf}
-use Rattle.delivery.specs.declared.event.Memory.the-variants.{Packet as PacketMemory, Collecting}
-use Rattle.delivery.specs.declared.event.Given.{Given}
-use Rattle.delivery.specs.Waiting.{Give, Nothing, One, Many, Queue, JoinedPacket}
-use Rattle.delivery.specs.declared.packet.Located.{Located}
+use Rattle.queue.specs.declared.event.Memory.the-variants.{Collecting}
+use Rattle.queue.specs.declared.event.Given.{Given}
+use Rattle.queue.specs.Waiting.{Give, Nothing, One, Many, Queue}
+use Rattle.queue.specs.declared.located.Located.{Located}
+use Rattle.queue.specs.Located.{unitLen, wholeGiven}
 use Rattle.delivery.specs.declared.packet.Arrived.{Arrived}
 use Rattle.delivery.specs.declared.packet.Arrived.the-variants.{Silent, Noted, Good}
 
@@ -68,9 +69,6 @@ unitOr End = blankUnit
 -- the data unit of a packet that is not aggregated
 unfoldable pub firstUnit : List ℕ → Payload → DataUnit
 firstUnit m y = cond (y .aggregated) blankUnit (unitOr (singleAt m (y .start) (y .kind)))
-
-abbrev pub unitLen : DataUnit → ℕ
-unitLen u = u .end - u .start
 
 abbrev pub pieceFrom : Packet → DataUnit → Piece
 pieceFrom k u =
@@ -111,14 +109,6 @@ Reach Whole u = Unit₀
 Reach (Store at) u = Unit₀
 Reach (Complete at) u = at + unitLen u < 18446744073709551616
 
--- a whole unit stands in packet memory
-abbrev pub wholeGiven : Located → DataUnit → Given
-wholeGiven l u =
-    record {
-      unit = carried (l .packet) (u .fields);
-      place = record { memory = PacketMemory; start = l .start + u .start; len = unitLen u };
-    }
-
 -- a joined unit stands in collecting memory
 abbrev pub joinedGiven : Joined → ℕ → ℕ → Given
 joinedGiven j base len =
@@ -133,6 +123,11 @@ giveOf NoAction j l base u = Nothing
 giveOf Whole j l base u = wholesOf (l .packet .payload .aggregated) l u
 giveOf (Store at) j l base u = Nothing
 giveOf (Complete at) j l base u = One (joinedGiven j base (at + unitLen u))
+
+-- what joining a packet leaves: the state of its packet_id, and what next has yet to give
+pub record JoinedPacket : Type 0 where
+  pub channel : Channel
+  pub queue : Queue
 
 abbrev pub queueOf : Joined → Located → ℕ → DataUnit → Queue
 queueOf j l base u =

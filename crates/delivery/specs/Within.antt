@@ -1,15 +1,14 @@
 -- Where packets and their data units lie in packet memory, and pieces in collecting memory.
-use Prim.Native.Nat.{ℕ, zero, suc, _+_, _-_, _*_, _≤_, _<_}
+use Prim.Native.Nat.{ℕ, _+_, _-_, _*_, _≤_, _<_}
 use mathlib.Core.Path.{_≡_, refl}
 use mathlib.Core.Bool.{Bool, true, false, cond, _&&_}
-use mathlib.Core.List.{List, []}
+use mathlib.Core.List.{List}
 use native.Mathlib.Omega.{arith}
 use native.Mathlib.Nat.{mul-le-mul-right, suc-mul}
-use borrow.Author.Tests.{leb-true, ltb-false}
-use lib.ListN.{length, getD, take, drop, length-take, length-drop}
-use lib.Dec.{leb, ltb}
-use lib.Seq.{take-take, length-take-le}
-use Rattle.wire.specs.Memory.{partOf, pasted, length-pasted}
+use borrow.Author.Tests.{ltb-false}
+use lib.ListN.{length, getD, drop, length-drop}
+use lib.Dec.{ltb}
+use Rattle.wire.specs.Memory.{partOf, length-pasted}
 use Rattle.mmtp.specs.declared.flow.Flow.{Flow}
 use Rattle.mmtp.specs.declared.flow.Flow.the-variants.{Silent as OtherFlow, Noted as NotedFlow, Mmtp}
 use Rattle.mmtp.specs.declared.packet.Reading.{Reading}
@@ -18,11 +17,10 @@ use Rattle.mmtp.specs.declared.payload.Payload.{Payload}
 use Rattle.mmtp.specs.declared.payload.Indicator.{Indicator}
 use Rattle.mmtp.specs.declared.payload.Indicator.the-variants.{Whole as FI00, First, Middle, Last}
 use Rattle.mmtp.specs.declared.unit.DataUnit.{DataUnit}
-use Rattle.mmtp.specs.declared.unit.Step.the-variants.{Unit, Malformed as NoUnit, End}
-use Rattle.mmtp.specs.Cases.{chose, chose-not}
+use Rattle.mmtp.specs.declared.unit.Step.the-variants.{Unit, Malformed as NoUnit}
 use Rattle.mmtp.specs.Flow.{flowOf}
 use Rattle.mmtp.specs.Packet.{readingOf, packet-place}
-use Rattle.mmtp.specs.Unit.{unitAt, dataUnit, unitFits, unit-fits, unit-fits-end, singleAt, singleUnit, singleFits, single-next}
+use Rattle.mmtp.specs.Unit.{singleAt, singleUnit, singleFits, single-next, Inside}
 use Rattle.reassembly.specs.declared.config.Rules.{Rules}
 use Rattle.reassembly.specs.declared.config.Config.{Config}
 use Rattle.reassembly.specs.declared.channel.Channel.{Channel}
@@ -47,80 +45,13 @@ use Rattle.reassembly.specs.Join.{
   inPhase,
   counterFollows,
 }
-use Rattle.delivery.specs.Choice.{by-test}
-use Rattle.delivery.specs.Waiting.{Queue}
-use Rattle.delivery.specs.declared.packet.Located.{Located}
+use Rattle.wire.specs.Choice.{by-test}
+use Rattle.queue.specs.Waiting.{Queue}
+use Rattle.queue.specs.declared.located.Located.{Located}
 use Rattle.delivery.specs.declared.packet.Arrived.{Arrived}
 use Rattle.delivery.specs.declared.packet.Arrived.the-variants.{Silent, Noted, Good}
-use Rattle.delivery.specs.Packet.{
-  readBy,
-  flowBy,
-  arrivedAt,
-  firstUnit,
-  unitOr,
-  unitLen,
-  blankUnit,
-  Room,
-  Reach,
-  placeOf,
-  Fits,
-  Unit₀,
-  collected,
-  bytesAt,
-  unitIn,
-  baseOf,
-  stepOf,
-  pieceFrom,
-  joinedOf,
-  receivedOf,
-}
-
--- a part of a memory
-module _ (s : List ℕ) (start len : ℕ) where
-  abbrev Lies : List ℕ → Type 0
-  Lies b = (0 < length b → start + length b ≤ length s) × (length b ≤ len)
-
-  part-by : (a b : Bool) → leb start (length s) ≡ a → leb len (length s - start) ≡ b
-      → Lies (cond a (cond b (take len (drop start s)) []) [])
-  part-by false b p q = (λ h. omega arith, omega arith)
-  part-by true false p q = (λ h. omega arith, omega arith)
-  part-by true true p q =
-      let l = leb-true start (length s) p in
-      let t = length-take len (drop start s) in
-      let d = length-drop start s in
-      (λ h. omega arith, omega arith)
-
-  -- it lies in the memory, unless it is empty
-  pub part-within : 0 < length (partOf s start len) → start + length (partOf s start len) ≤ length s
-  unfolding partOf
-  part-within = part-by (leb start (length s)) (leb len (length s - start)) refl refl .0
-
-  pub part-length : length (partOf s start len) ≤ len
-  unfolding partOf
-  part-length = part-by (leb start (length s)) (leb len (length s - start)) refl refl .1
-
--- so places in it are numbers, as all of the memory's are
-pub part-reach : (s : List ℕ) (start len k n : ℕ) → start < n → length s < n → k ≤ length (partOf s start len) → start + k < n
-part-reach s start len zero n h l e = omega arith
-part-reach s start len (suc k) n h l e = let w = part-within s start len (omega arith) in omega arith
-
--- a data unit lies in its packet
-pub record Inside (m : List ℕ) (u : DataUnit) : Type 0 where
-  pub ordered : u .start ≤ u .end
-  pub within : u .end ≤ length m
-
--- also one of an aggregate
-pub unit-inside : (m : List ℕ) (at kind : ℕ) (wide : Bool) (u : DataUnit) → unitAt m at kind wide ≡ Unit u → Inside m u
-unfolding unitAt dataUnit
-unit-inside m at kind wide u e =
-    let v : DataUnit = dataUnit m at kind wide in
-    let a = chose-not (leb (length m) at) End _ (Unit u) e (λ q. let z : _≡_ {A = ℕ} 0 1 = cc in omega arith) in
-    let b = chose (unitFits (drop at m) kind wide) (Unit v) NoUnit (Unit u) (a .1)
-    (λ q. let z : _≡_ {A = ℕ} 0 1 = cc in omega arith) in
-    let f = unit-fits (drop at m) kind wide (b .0) in
-    let g = unit-fits-end m at kind wide (b .0) in
-    let r : v ≡ u = let q : Unit v ≡ Unit u = b .1 in cc in
-    rw (← r) (record { ordered = omega arith; within = omega arith })
+use Rattle.delivery.specs.Packet.{readBy, flowBy, arrivedAt, firstUnit, unitOr, blankUnit, Room, Reach, placeOf, Fits, Unit₀, collected, bytesAt, unitIn, baseOf, stepOf, pieceFrom, joinedOf, receivedOf}
+use Rattle.queue.specs.Located.{unitLen}
 
 single-inside : (m : List ℕ) (at kind : ℕ) (b : Bool) → singleFits m at kind ≡ b
     → Inside m (unitOr (cond b (Unit (singleUnit m at kind)) NoUnit))
@@ -271,9 +202,3 @@ unfolding receivedOf
 length-received Silent ch q p c rules h = refl
 length-received (Noted n id) ch q p c rules h = refl
 length-received (Good l) ch q p c rules h = length-joined ch l p c rules h
-
--- the first bytes of a list, put into a memory
-pub pasted-take : (d : List ℕ) (at : ℕ) (s : List ℕ) (n : ℕ) → n ≤ length s
-    → pasted d at (take n s) (length (take n s)) ≡ pasted d at s n
-unfolding pasted
-pasted-take d at s n h = let e : length (take n s) ≡ n = length-take-le n s h in rw (e, take-take n n s (omega arith))

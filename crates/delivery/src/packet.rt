@@ -3,15 +3,10 @@ ghost use mathlib.Core.Path.{_≡_};
 ghost use Prim.Native.Nat.{_+_, _-_, _*_, _≤_, _<_};
 ghost use lib.ListN.{length};
 ghost use Rattle.delivery.specs.Packet.{readBy, arrivedAt, firstUnit, pieceFrom, Stored, stored, Room, Reach, collected};
-ghost use Rattle.delivery.specs.Packet.{wholeGiven, wholesOf, giveOf};
-ghost use Rattle.delivery.specs.Words.{GiveStored, Keeps, Joins, Receives};
-use crate::event::Given;
-use crate::event::Memory;
-use crate::event::Place;
-use crate::queue::put_many;
-use crate::queue::put_none;
-use crate::queue::put_notes;
-use crate::queue::put_one;
+ghost use Rattle.queue.specs.Located.{wholeGiven};
+ghost use Rattle.delivery.specs.Packet.{wholesOf, giveOf};
+ghost use Rattle.queue.specs.Words.{GiveStored};
+ghost use Rattle.delivery.specs.Words.{Keeps, Joins, Receives};
 use mmtp::flow::Flow;
 use mmtp::note::PacketNote;
 use mmtp::note::number;
@@ -22,6 +17,15 @@ use mmtp::payload::Payload;
 use mmtp::unit::DataUnit;
 use mmtp::unit::Fields;
 use mmtp::unit::Step;
+use queue::event::Given;
+use queue::event::Memory;
+use queue::event::Place;
+use queue::located::Located;
+use queue::located::whole;
+use queue::waiting::put_many;
+use queue::waiting::put_none;
+use queue::waiting::put_notes;
+use queue::waiting::put_one;
 use reassembly::channel::Channel;
 use reassembly::config::Config;
 use reassembly::config::Rules;
@@ -32,13 +36,6 @@ use words::channel::CHANNEL_WORDS;
 use words::channel::load_channel;
 use words::channel::store_channel;
 use words::channel::store_heard;
-
-// An MMTP packet of a watched packet_id, and where it stands in packet memory.
-pub struct Located {
-    pub packet: Packet,
-    pub start: usize,
-    pub end: usize,
-}
 
 // What a TLV packet comes to.
 pub enum Arrived {
@@ -143,22 +140,6 @@ fn collect(action: Action, collecting: &mut [u8], base: usize, m: &[u8], u: Data
         Action::Store(at) => store_piece(collecting, base + at, m, u),
         Action::Complete(at) => store_piece(collecting, base + at, m, u),
     }
-}
-
-// A whole unit stands in packet memory.
-pub fn whole(l: Located, u: DataUnit) -> Given
-    requires { ⌜ (u .start ≤ u .end) × (l .start + u .start < 18446744073709551616) ⌝ }
-    ensures { λ r. ⌜ r ≡ wholeGiven l u ⌝ }
-{
-    let packet = l.packet;
-    let fields = u.fields;
-    let unit = reassembly::unit::of_packet(packet, fields);
-    let place = Place {
-        memory: Memory::Packet,
-        start: l.start + u.start,
-        len: u.end - u.start,
-    };
-    Given { unit, place }
 }
 
 // The units that a packet gives.

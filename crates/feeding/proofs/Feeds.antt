@@ -10,7 +10,7 @@ use lib.ListN.{length, getD, take, drop, length-append, length-drop, take-append
 use lib.Seq.{take-paste, take-at, drop-at, drop-drop, length-take-le}
 use lib.Dec.{eqb, ltb}
 use Rattle.wire.specs.Memory.{pasted, length-pasted}
-use Rattle.delivery.specs.Choice.{by-test}
+use Rattle.wire.specs.Choice.{by-test}
 use Rattle.capture.specs.declared.command.Letter.{Letter}
 use Rattle.capture.specs.declared.command.Letter.the-variants.{Start, Frame, LostFrame, Slot, LostSlot, Unknown}
 use Rattle.capture.specs.declared.session.Phase.{Phase}

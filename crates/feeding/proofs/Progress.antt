@@ -7,8 +7,8 @@ use mathlib.Core.Logic.{inl, inr, ⊎-elim}
 use native.Mathlib.Omega.{arith}
 use borrow.Author.Tests.{lt-ltb, le-leb}
 use lib.ListN.{length}
-use Rattle.delivery.specs.declared.event.Event.{Event}
-use Rattle.delivery.specs.Choice.{by-test}
+use Rattle.queue.specs.declared.event.Event.{Event}
+use Rattle.wire.specs.Choice.{by-test}
 use Rattle.receiver.specs.Next.{nextOf}
 use Rattle.capture.specs.Session.{Session, busy, withState, withTally}
 use Rattle.lines.specs.Text.{wrote}

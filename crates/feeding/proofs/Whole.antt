@@ -7,8 +7,8 @@ use native.Mathlib.Omega.{arith}
 use borrow.Author.Tests.{ltb-false}
 use lib.ListN.{length, drop, drop-of-length-le}
 use lib.Dec.{ltb}
-use Rattle.delivery.specs.Choice.{by-test}
-use Rattle.delivery.specs.declared.event.Event.{Event}
+use Rattle.wire.specs.Choice.{by-test}
+use Rattle.queue.specs.declared.event.Event.{Event}
 use Rattle.receiver.specs.Next.{nextOf}
 use Rattle.lines.specs.Text.{wrote}
 use Rattle.lines.specs.Line.{isLine}

@@ -1,6 +1,6 @@
 -- What feeding a block answers and leaves.
 use Prim.Native.Nat.{ℕ, zero, suc, min, _+_, _-_, _<_, _≤_}
-use mathlib.Core.Path.{_≡_, refl, _∙_, ap}
+use mathlib.Core.Path.{_≡_, refl, _∙_}
 use mathlib.Core.Bool.{Bool, true, false, cond, _&&_, not, and-false, and-eq-true-iff}
 use mathlib.Core.List.{List}
 use native.Mathlib.Nat.{add-sub-cancel-left}
@@ -10,8 +10,8 @@ use lib.ListN.{length, take, drop, length-take, length-drop, take-append-drop}
 use lib.Seq.{length-take-le}
 use lib.Dec.{eqb, ltb}
 use Rattle.wire.specs.Memory.{pasted, length-pasted}
-use Rattle.delivery.specs.Choice.{by-test}
-use Rattle.delivery.specs.Within.{pasted-take}
+use Rattle.wire.specs.Choice.{by-test}
+use Rattle.wire.specs.Memory.{pasted-take}
 use Rattle.capture.specs.Session.{Progress, Session, busy, isEnded}
 use Rattle.feeding.specs.Fed.{Fed}
 use Rattle.feeding.specs.declared.feed.Turn.{Turn}

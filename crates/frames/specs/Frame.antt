@@ -8,7 +8,7 @@ use lib.ListN.{length}
 use lib.Dec.{eqb, ltb}
 use Rattle.tmcc.specs.Block.{decodeOf}
 use Rattle.state.specs.State.{State, Called, withFrame, withOwed, withIntake, refused, accepted}
-use Rattle.delivery.specs.Choice.{neither}
+use Rattle.wire.specs.Choice.{neither}
 use Rattle.intake.specs.Slot.{lostOf}
 
 -- slots are due, or next is owed

@@ -13,7 +13,7 @@ use Rattle.tmcc.specs.declared.layout.Pointers.{Pointers}
 use Rattle.reassembly.specs.declared.config.Config.{Config}
 use Rattle.state.specs.State.{State, Called, withFrame, withOwed, withIntake, refused, accepted}
 use Rattle.state.specs.Tests.{passed}
-use Rattle.delivery.specs.Choice.{neither}
+use Rattle.wire.specs.Choice.{neither}
 use Rattle.intake.specs.Slot.{packetMemory, intakeOf}
 use Rattle.frames.specs.Frame.{lossOf}
 

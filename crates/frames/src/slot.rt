@@ -7,6 +7,8 @@ ghost use Rattle.state.specs.Words.{stateWords, stateIn, Sets, Leaves};
 ghost use Rattle.frames.specs.Slot.{shortBy, slotRefusal, counted, wrongLength, slotOf, lostSlotOf};
 use crate::frame::lose;
 use crate::frame::settle;
+use intake::slot::MAX_SLOT;
+use intake::slot::SLOT_AREA;
 use state::places::AT;
 use state::places::CONFIG;
 use state::places::HELD;
@@ -15,8 +17,6 @@ use state::places::STATE_WORDS;
 use state::places::is_own;
 use state::places::length_at;
 use state::places::pointers_at;
-use intake::slot::MAX_SLOT;
-use intake::slot::SLOT_AREA;
 use words::cursor::load_held;
 
 // Whether packet memory has fewer than 21,433 bytes, or collecting memory fewer than n × R.

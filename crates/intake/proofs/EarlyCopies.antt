@@ -1,43 +1,23 @@
 -- Why a slot may be copied in two parts, the first of them before the held bytes are moved.
-use Prim.Native.Nat.{ℕ, _+_, _-_, _<_, _≤_}
+use Prim.Native.Nat.{ℕ, _+_, _-_, _≤_}
 use mathlib.Core.Path.{_≡_, refl, sym, _∙_, ap}
 use mathlib.Core.Bool.{Bool, true, false, cond, _||_}
-use mathlib.Core.List.{List, []}
+use mathlib.Core.List.{List}
 use native.Mathlib.Omega.{arith}
 use borrow.Author.Tests.{ltb-true, ltb-false}
-use lib.Dec.{ltb, leb}
-use lib.ListN.{length, take, drop, length-take, length-drop}
-use lib.Seq.{take-take, length-take-le}
-use Rattle.wire.specs.Memory.{partOf, pasted, pasted-zero, length-pasted}
+use lib.Dec.{ltb}
+use lib.ListN.{length, take, drop, length-drop}
+use Rattle.wire.specs.Memory.{pasted, pasted-zero, pasted-take, part-length, length-pasted}
+use Rattle.wire.specs.Choice.{neither}
 use Rattle.tmcc.specs.declared.layout.Pointers.{Pointers}
 use Rattle.tlv.specs.declared.held.Continuation.{Continuation}
 use Rattle.tlv.specs.declared.held.Continuation.the-variants.{Dropped, Ends, GoesOn}
 use Rattle.tlv.specs.Slot.{sound}
 use Rattle.tlv.specs.Held.{continuationOf}
 use Rattle.intake.specs.declared.held.Held.{Held}
-use Rattle.intake.specs.Slot.{slotArea, packetMemory, heldBytes, heldLen, movedMem, continuedMem, resumedAs, resumedMem, resumedBy, resumedOf, resumed, takenBy, copied, intakeOf, IntakeOut}
+use Rattle.intake.specs.Slot.{slotArea, packetMemory, heldBytes, heldLen, movedMem, continuedMem, resumedMem, resumedOf, resumed, takenBy, copied, intakeOf, IntakeOut}
 use Rattle.intake.specs.Early.{freePart, free-all, free-none, free-below, held-early, continued-early, pasted-rest}
 use Rattle.intake.proofs.SlotLaws.{Room, part-room, ends-room, goes-on-room, held-fits}
-
-neither : (a b : Bool) → a || b ≡ false → (a ≡ false) × (b ≡ false)
-neither true b e = (cc, cc)
-neither false b e = (refl, e)
-
--- a part is no longer than it was asked for
-part-most : (s : List ℕ) (start len : ℕ) → length (partOf s start len) ≤ len
-unfolding partOf
-part-most s start len = go (leb start (length s)) (leb len (length s - start))
-  where
-    go : (a b : Bool) → length (cond a (cond b (take len (drop start s)) []) []) ≤ len
-    go true true = simp (length-take, length-drop) (omega arith)
-    go true false = omega arith
-    go false b = omega arith
-
--- the first k bytes, put in by themselves
-pub pasted-front : (m : List ℕ) (at : ℕ) (d : List ℕ) (k : ℕ) → k ≤ length d
-    → pasted m at (take k d) (length (take k d)) ≡ pasted m at d k
-unfolding pasted
-pasted-front m at d k h = rw (length-take-le k d h, take-take k k d (omega arith))
 
 -- bytes of the slot were put in before
 abbrev early : IntakeOut → List ℕ → ℕ → IntakeOut
@@ -52,11 +32,11 @@ module _ (h : Held) (p d : List ℕ) (t : Pointers) (k : ℕ) (hk : k ≤ length
   memory-early (Dropped x) e = refl
   memory-early (Ends j) e =
       let r = ends-room (heldBytes h p) d (t .0) (t .1) j s e in
-      let m = part-most p (h .start) (h .len) in
+      let m = part-length p (h .start) (h .len) in
       continued-early h p d k hk hp hh j (r .within) (r .fits slotArea (omega arith) (omega arith)) (part-room p (h .start) (h .len))
   memory-early GoesOn e =
       let r = goes-on-room (heldBytes h p) d (t .0) (t .1) e in
-      let m = part-most p (h .start) (h .len) in
+      let m = part-length p (h .start) (h .len) in
       continued-early h p d k hk hp hh (length d) (r .within) (r .fits slotArea (omega arith) (omega arith))
       (part-room p (h .start) (h .len))
 
@@ -152,8 +132,8 @@ module _ (h : Held) (p d : List ℕ) (t : Pointers) (hp : packetMemory ≤ lengt
   taken-in-parts r e =
       let k = freePart h (length d) in
       let w = takenBy (sound d (t .0) (t .1)) (h .on) h p d t in
-      let q : r ≡ early w d k = rw (pasted-front p slotArea d k free-most) at e ∙ taken-early in
+      let q : r ≡ early w d k = rw (pasted-take p slotArea d k free-most) at e ∙ taken-early in
       let l = length-taken h p d t hp in
       ap (λ (x : IntakeOut). (x .0, pasted (x .1) (slotArea + k) (drop k d) (length (drop k d)))) q
-      ∙ ap (λ (m : List ℕ). (w .0, pasted m (slotArea + k) (drop k d) (length (drop k d)))) (sym (pasted-front (w .1) slotArea d k free-most))
+      ∙ ap (λ (m : List ℕ). (w .0, pasted m (slotArea + k) (drop k d) (length (drop k d)))) (sym (pasted-take (w .1) slotArea d k free-most))
       ∙ ap (λ (m : List ℕ). (w .0, m)) (pasted-rest (w .1) slotArea d k free-most (rw l (omega arith)))

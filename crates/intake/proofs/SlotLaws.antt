@@ -6,10 +6,9 @@ use mathlib.Core.List.{List, []}
 use native.Mathlib.Nat.{sub-zero}
 use native.Mathlib.Omega.{arith}
 use lib.ListN.{length, take, drop, length-take, length-drop}
-use lib.Seq.{take-take}
 use lib.Dec.{eqb, ltb, leb}
 use borrow.Author.Tests.{eqb-true, eqb-false, ltb-true, ltb-false}
-use Rattle.wire.specs.Memory.{partOf, pasted}
+use Rattle.wire.specs.Memory.{partOf, pasted, pasted-take}
 use Rattle.tlv.specs.declared.note.SlotNote.the-variants.{Misfit, TooLong}
 use Rattle.tlv.specs.declared.held.Continuation.the-variants.{Dropped, Ends, GoesOn}
 use Rattle.tlv.specs.Slot.{none, sound, unsound-outside}
@@ -34,10 +33,7 @@ part-room s start len = go (leb start (length s)) (leb len (length s - start))
 -- the first k bytes, put in by themselves
 pub pasted-part : (m : List ℕ) (at : ℕ) (d : List ℕ) (k : ℕ) → k ≤ length d
     → pasted m at (take (k - 0) d) (length (take (k - 0) d)) ≡ pasted m at d k
-unfolding pasted
-pasted-part m at d k h =
-    let n : length (take k d) ≡ k = length-take k d ∙ omega arith in
-    rw (sub-zero, n, take-take k k d (omega arith))
+pasted-part m at d k h = rw sub-zero (pasted-take m at d k h)
 
 -- what it tells that a held packet ends at t, or at the slot's end, or goes on past it
 within-ends : (x t e : ℕ) → endWithin x t ≡ Ends e → (x ≡ e) × (x ≡ t)

@@ -2,16 +2,15 @@
 use Prim.Native.Nat.{ℕ, _+_, _-_, _<_, _≤_}
 use mathlib.Core.Path.{_≡_, refl, sym, _∙_, ap}
 use mathlib.Core.Bool.{Bool, true, false, cond, _||_}
-use mathlib.Core.Logic.{_⊎_, inl, inr}
-use mathlib.Core.List.{List, [], _++_}
+use mathlib.Core.Logic.{inl, inr}
+use mathlib.Core.List.{List, _++_}
 use native.Mathlib.Omega.{arith}
 use borrow.Author.Tests.{ltb-true, ltb-false}
-use lib.Dec.{ltb, leb}
-use lib.ListN.{length, getD, take, drop, length-append, length-drop, List·getD-append, take-append-drop}
+use lib.Dec.{ltb}
+use lib.ListN.{length, getD, take, drop, length-drop, List·getD-append, take-append-drop}
 use lib.Seq.{ext-getD, getD-take, getD-drop, getD-append-add, length-take-le, length-paste-head, drop-drop, drop-paste}
-use Rattle.wire.specs.Memory.{partOf, pasted, pasted-zero, pasted-append, length-pasted}
+use Rattle.wire.specs.Memory.{partOf, pasted, pasted-append, length-pasted}
 use Rattle.wire.specs.Words.{Beside}
-use Rattle.tmcc.specs.declared.layout.Pointers.{Pointers}
 use Rattle.intake.specs.declared.held.Held.{Held}
 use Rattle.intake.specs.Slot.{slotArea, heldBytes, heldLen, movedMem, continuedMem}
 

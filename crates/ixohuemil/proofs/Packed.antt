@@ -1,7 +1,5 @@
 -- Why the packer takes the record of a unit as next writes it.
-use Prim.Native.Nat.{ℕ, _≤_}
-use mathlib.Core.Path.{_≡_, refl, _∙_, ap}
-use Rattle.words.specs.Channel.{SizedUnit}
+use mathlib.Core.Path.{_∙_, ap}
 use Rattle.reassembly.specs.declared.unit.Unit.{Unit}
 use Rattle.calls.specs.Record.{unit-taken, unit-read}
 use Rattle.ixohuemil.specs.Answers.{packCall, pack-unit}

@@ -16,7 +16,7 @@ use Rattle.cutter.specs.declared.slot.CutSlot.{CutSlot}
 use Rattle.cutter.specs.declared.slot.CutSlot.the-variants.{Cut, Refused as NotCut}
 use Rattle.cutter.specs.Slot.{slotCut}
 use Rattle.cutter.proofs.Refusals.{cut-refused}
-use Rattle.ixohuemil.specs.Answers.{packCall, packRecord, cutCall, pack-unit, pack-other, pack-taken, pack-left, cut-taken, cut-left}
+use Rattle.ixohuemil.specs.Answers.{packCall, pack-unit, pack-other, pack-taken, pack-left, cut-taken, cut-left}
 use Rattle.ixohuemil.specs.Claims.{PackRecordRefused, CutCallRefused, PackRecordTaken, CutCallTaken}
 
 pack-call-refused : (u : Unit) (cid sn m : ℕ) (s out : List ℕ) (len : ℕ) (n len' : ℕ) (out' : List ℕ)

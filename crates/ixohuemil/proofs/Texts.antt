@@ -6,7 +6,6 @@ use mathlib.Core.List.{List, [], _++_, append-nil}
 use native.Mathlib.Omega.{arith}
 use borrow.Author.Tests.{leb-true, leb-false}
 use lib.ListN.{length, replicate, length-append, length-replicate}
-use lib.Dec.{leb}
 use Rattle.lines.specs.Text.{wrote, wrote-end, written-end, written-length, written-more}
 use Rattle.lines.specs.Line.{longestLine, end-67}
 use Rattle.capture.specs.Command.{longestCommand}

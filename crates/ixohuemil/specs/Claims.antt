@@ -6,7 +6,7 @@ use mathlib.Core.Bool.{true}
 use mathlib.Core.Logic.{_⊎_}
 use mathlib.Core.List.{List}
 use Rattle.words.specs.Channel.{readUnit, SizedUnit}
-use Rattle.delivery.specs.declared.event.Given.{Given}
+use Rattle.queue.specs.declared.event.Given.{Given}
 use Rattle.packer.specs.declared.pack.Packed.the-variants.{Written}
 use Rattle.packer.specs.Packer.{packOf}
 use Rattle.cutter.specs.declared.slot.CutSlot.the-variants.{Cut}

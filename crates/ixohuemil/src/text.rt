@@ -1,9 +1,9 @@
 // A whole capture in memory, and the lines that it comes to.
 ghost use mathlib.Core.Path.{_≡_};
 ghost use Rattle.ixohuemil.specs.Text.{textCall};
-use feeding::feed::feed;
 use capture::finish::begin;
 use capture::finish::finish;
+use feeding::feed::feed;
 
 // Writes the lines of a capture to `text`, as `tlv_capture` prints them with memories of these lengths, and answers how many bytes
 // it wrote. Where no longest line would fit any more it stops: lines are missing then, the last one among them.

@@ -1,10 +1,9 @@
 -- Examples of lines, computed: each number in its place, and which notes have an id.
-use Prim.Native.Nat.{ℕ}
 use mathlib.Core.Path.{_≡_, refl}
 use mathlib.Core.List.{[], _∷_}
 use Rattle.mmtp.specs.Unit.{noFields}
-use Rattle.delivery.specs.declared.event.Given.{Given}
-use Rattle.delivery.specs.declared.event.Memory.the-variants.{Collecting}
+use Rattle.queue.specs.declared.event.Given.{Given}
+use Rattle.queue.specs.declared.event.Memory.the-variants.{Collecting}
 use Rattle.lines.specs.Decimal.{digits, decimal}
 use Rattle.lines.specs.Line.{field, placeText, carriedText, unitLine, idText, noteLine, refusedLine, endLine}
 

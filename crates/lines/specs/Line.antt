@@ -8,9 +8,9 @@ use borrow.Author.Tests.{le-leb, lt-leb}
 use lib.ListN.{length, length-append}
 use lib.Dec.{leb}
 use Rattle.reassembly.specs.declared.unit.Unit.{Unit}
-use Rattle.delivery.specs.declared.event.Given.{Given}
-use Rattle.delivery.specs.declared.event.Event.{Event}
-use Rattle.delivery.specs.declared.event.Event.the-variants.{Nothing, Note, Unit as AUnit, Refused}
+use Rattle.queue.specs.declared.event.Given.{Given}
+use Rattle.queue.specs.declared.event.Event.{Event}
+use Rattle.queue.specs.declared.event.Event.the-variants.{Nothing, Note, Unit as AUnit, Refused}
 use Rattle.lines.specs.Decimal.{decimal, decimal-20}
 
 -- an event that has a line of its own: a note or a unit

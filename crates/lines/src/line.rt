@@ -5,8 +5,8 @@ ghost use lib.ListN.{length};
 ghost use Rattle.lines.specs.Text.{Put};
 ghost use Rattle.lines.specs.Line.{longestLine, isLine, field, placeText, carriedText, unitLine, idText, noteLine, refusedLine, endLine};
 use crate::decimal::put_decimal;
-use delivery::event::Event;
-use delivery::event::Given;
+use queue::event::Event;
+use queue::event::Given;
 use reassembly::unit::Unit;
 
 // No line is longer: seven numbers of up to 20 digits, the word unit, and eight characters behind them.

@@ -11,6 +11,7 @@ use lib.Dec.{eqb, leb}
 use lib.Seq.{getD-take, drop-drop}
 use Rattle.wire.specs.Memory.{slice-rest}
 use Rattle.wire.specs.Field.{be}
+use Rattle.mmtp.specs.Cases.{chose, chose-not}
 use Rattle.mmtp.specs.Take.{be-take, drop-take}
 use Rattle.mmtp.specs.declared.unit.Fields.{Fields}
 use Rattle.mmtp.specs.declared.unit.DataUnit.{DataUnit}
@@ -407,3 +408,21 @@ single-next m at kind h =
       within = omega arith;
       piece = rw (slice-rest m s, drop-drop (fieldBytes kind) at m);
     }
+
+-- a data unit lies in its packet
+pub record Inside (m : List ℕ) (u : DataUnit) : Type 0 where
+  pub ordered : u .start ≤ u .end
+  pub within : u .end ≤ length m
+
+-- also one of an aggregate
+pub unit-inside : (m : List ℕ) (at kind : ℕ) (wide : Bool) (u : DataUnit) → unitAt m at kind wide ≡ Unit u → Inside m u
+unfolding unitAt dataUnit
+unit-inside m at kind wide u e =
+    let v : DataUnit = dataUnit m at kind wide in
+    let a = chose-not (leb (length m) at) End _ (Unit u) e (λ q. let z : _≡_ {A = ℕ} 0 1 = cc in omega arith) in
+    let b = chose (unitFits (drop at m) kind wide) (Unit v) Malformed (Unit u) (a .1)
+    (λ q. let z : _≡_ {A = ℕ} 0 1 = cc in omega arith) in
+    let f = unit-fits (drop at m) kind wide (b .0) in
+    let g = unit-fits-end m at kind wide (b .0) in
+    let r : v ≡ u = let q : Unit v ≡ Unit u = b .1 in cc in
+    rw (← r) (record { ordered = omega arith; within = omega arith })

@@ -1,5 +1,5 @@
 -- The state of one watched packet_id: unheard, waiting, idle or open, with the last psn heard.
-use Prim.Native.Nat.{ℕ, _+_, _%_, _^_}
+use Prim.Native.Nat.{_+_, _%_, _^_}
 use mathlib.Core.Bool.{Bool, true, false, _&&_, not}
 use lib.Dec.{eqb}
 use Rattle.mmtp.specs.declared.header.Psn.{Psn}

@@ -11,7 +11,7 @@ use Rattle.reassembly.specs.declared.unit.Unit.{Unit as UnitInfo}
 use Rattle.reassembly.specs.Unit.{agrees}
 use Rattle.reassembly.specs.Channel.{nextPsn, heard, gap, unheard}
 use Rattle.reassembly.specs.Join.{interrupted, begun, counterFollows, grown, extended, followed, acted, joinOf, notesOf}
-use Rattle.reassembly.specs.Run.{Input, Labelled, note, unit, fresh, step, run, units}
+use Rattle.reassembly.specs.Run.{Input, Labelled, note, unit, fresh, step, run}
 use Rattle.reassembly.specs.Sent.{openUnit, sentAfter, sent}
 use Rattle.reassembly.specs.Claims.{received, unharmed}
 

@@ -1,7 +1,7 @@
 -- Reassembly of a list of packets of all watched packet_ids, over lists of bytes. Each packet has a label of any type;
 -- an open unit, and a unit, has the labels of the packets that carry it.
 use Prim.Native.Nat.{ℕ, suc}
-use mathlib.Core.Bool.{Bool, cond}
+use mathlib.Core.Bool.{cond}
 use mathlib.Core.List.{List, [], _∷_, _++_, map}
 use lib.Dec.{eqb}
 use Rattle.mmtp.specs.declared.payload.Indicator.{Indicator}

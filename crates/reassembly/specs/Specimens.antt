@@ -1,7 +1,6 @@
 -- Document 01's starred specimens of Joining, and further examples, computed over the definitions.
 use Prim.Native.Nat.{ℕ}
 use mathlib.Core.Path.{_≡_, refl}
-use mathlib.Core.Bool.{Bool}
 use mathlib.Core.List.{List, [], _∷_}
 use Rattle.mmtp.specs.declared.payload.Indicator.{Indicator}
 use Rattle.mmtp.specs.declared.payload.Indicator.the-variants.{Whole, First, Middle, Last}

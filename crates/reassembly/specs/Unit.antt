@@ -1,5 +1,4 @@
 -- What a unit carries beside its bytes, and when a further piece agrees with an open unit.
-use Prim.Native.Nat.{ℕ}
 use mathlib.Core.Bool.{Bool, _&&_}
 use lib.Dec.{eqb}
 use Rattle.mmtp.specs.declared.packet.Packet.{Packet}

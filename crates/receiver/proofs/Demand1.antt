@@ -5,9 +5,9 @@ use mathlib.Core.Bool.{true}
 use mathlib.Core.List.{List}
 use lib.ListN.{length}
 use Rattle.wire.specs.Memory.{part-inside, part-outside}
-use Rattle.delivery.specs.declared.event.Event.{Event}
-use Rattle.delivery.specs.declared.event.Event.the-variants.{Nothing, Refused}
-use Rattle.delivery.specs.Choice.{by-test}
+use Rattle.queue.specs.declared.event.Event.{Event}
+use Rattle.queue.specs.declared.event.Event.the-variants.{Nothing, Refused}
+use Rattle.wire.specs.Choice.{by-test}
 use Rattle.delivery.specs.Cursor.{left}
 use Rattle.state.specs.State.{State}
 use Rattle.state.proofs.Refused.{start-kept}

@@ -17,20 +17,23 @@ use Rattle.reassembly.specs.declared.join.Joined.{Joined}
 use Rattle.reassembly.specs.declared.join.Action.{Action}
 use Rattle.reassembly.specs.declared.join.Action.the-variants.{Nothing as NoAction, Whole, Store, Complete}
 use Rattle.reassembly.specs.Channel.{unheard}
-use Rattle.delivery.specs.declared.event.Event.{Event as NextEvent}
-use Rattle.delivery.specs.declared.event.Event.the-variants.{Nothing, Note, Unit, Refused}
-use Rattle.delivery.specs.declared.event.Given.{Given}
-use Rattle.delivery.specs.Waiting.{Give, Nothing as NoUnit, One, Many, Aggregate, Queue, Taken}
-use Rattle.delivery.specs.declared.packet.Located.{Located}
+use Rattle.queue.specs.declared.event.Event.{Event as NextEvent}
+use Rattle.queue.specs.declared.event.Event.the-variants.{Nothing, Note, Unit, Refused}
+use Rattle.queue.specs.declared.event.Given.{Given}
+use Rattle.queue.specs.Waiting.{Give, Nothing as NoUnit, One, Many, Aggregate, Queue, Taken}
+use Rattle.queue.specs.declared.located.Located.{Located}
 use Rattle.delivery.specs.declared.packet.Arrived.{Arrived}
 use Rattle.delivery.specs.declared.packet.Arrived.the-variants.{Silent, Noted, Good}
 use Rattle.delivery.specs.declared.cursor.Found.{Found}
 use Rattle.delivery.specs.declared.cursor.Found.the-variants.{Event, Packet, Tail, Done}
 use Rattle.delivery.specs.declared.cursor.Advanced.{Advanced}
-use Rattle.delivery.specs.Packet.{wholeGiven, wholesOf, giveOf, unitLen, unitIn, bytesAt, baseOf, stepOf, pieceFrom, joinedOf, arrivedAt}
-use Rattle.delivery.specs.Within.{Inside, unit-inside, first-inside, part-within, part-length, Below, joined-below}
+use Rattle.queue.specs.Located.{wholeGiven, unitLen}
+use Rattle.delivery.specs.Packet.{wholesOf, giveOf, unitIn, bytesAt, baseOf, stepOf, pieceFrom, joinedOf, arrivedAt}
+use Rattle.mmtp.specs.Unit.{Inside, unit-inside}
+use Rattle.delivery.specs.Within.{first-inside, Below, joined-below}
+use Rattle.wire.specs.Memory.{part-within, part-length}
 use Rattle.delivery.specs.Within.{arrived-fits, length-joined}
-use Rattle.delivery.specs.Queue.{eventTaken, nextUnit, taken-note, taken-over, taken-nothing, taken-one, taken-many}
+use Rattle.queue.specs.Queue.{eventTaken, nextUnit, taken-note, taken-over, taken-nothing, taken-one, taken-many}
 use Rattle.tlv.specs.declared.packet.Next.{Next}
 use Rattle.tlv.specs.declared.packet.Next.the-variants.{Packet as PacketTo, Tail as TailAt}
 use Rattle.tlv.specs.Packet.{packetAt, tooLong}

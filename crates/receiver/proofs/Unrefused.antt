@@ -1,6 +1,5 @@
 -- Reading on never answers a refusal.
 use Prim.Native.Nat.{ℕ, zero, suc, _-_}
-use mathlib.Core.Bool.{Bool, true, false, cond}
 use mathlib.Core.List.{List}
 use lib.ListN.{drop}
 use lib.Dec.{eqb}
@@ -13,13 +12,13 @@ use Rattle.mmtp.specs.declared.unit.Step.{Step}
 use Rattle.mmtp.specs.declared.unit.Step.the-variants.{Unit as UnitAt, Malformed, End}
 use Rattle.mmtp.specs.Unit.{unitAt}
 use Rattle.intake.specs.declared.held.Cursor.{Cursor}
-use Rattle.delivery.specs.declared.event.Event.{Event}
-use Rattle.delivery.specs.declared.event.Event.the-variants.{Nothing, Note, Unit, Refused}
-use Rattle.delivery.specs.Waiting.{Aggregate, Give, Nothing as NoUnit, One, Many, Queue, Taken}
+use Rattle.queue.specs.declared.event.Event.{Event}
+use Rattle.queue.specs.declared.event.Event.the-variants.{Nothing, Note, Unit, Refused}
+use Rattle.queue.specs.Waiting.{Aggregate, Give, Nothing as NoUnit, One, Many, Queue, Taken}
 use Rattle.delivery.specs.declared.cursor.Found.{Found}
 use Rattle.delivery.specs.declared.cursor.Found.the-variants.{Event as AnEvent, Packet, Tail, Done}
 use Rattle.delivery.specs.declared.cursor.Advanced.{Advanced}
-use Rattle.delivery.specs.Queue.{giveBy, manyBy, eventTaken}
+use Rattle.queue.specs.Queue.{giveBy, manyBy, eventTaken}
 use Rattle.delivery.specs.Cursor.{tailAdvanced, advancedBy, slotAdvanced, advancedOf, turnBy, turnOf}
 use Rattle.state.specs.State.{State}
 use Rattle.receiver.specs.Next.{NextOut, onwards, readOn, past}

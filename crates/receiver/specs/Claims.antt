@@ -7,8 +7,8 @@ use mathlib.Core.Bool.{true}
 use mathlib.Core.List.{List, []}
 use lib.ListN.{length, take, drop}
 use Rattle.reassembly.specs.declared.config.Config.{Config}
-use Rattle.delivery.specs.declared.event.Event.the-variants.{Refused}
-use Rattle.delivery.specs.declared.event.Place.{Place}
+use Rattle.queue.specs.declared.event.Event.the-variants.{Refused}
+use Rattle.queue.specs.declared.event.Place.{Place}
 use Rattle.state.specs.State.{State}
 use Rattle.state.specs.Refused.{IsRefused, Kept}
 use Rattle.state.specs.Start.{startFrom}

@@ -2,8 +2,8 @@
 use mathlib.Core.Path.{_≡_, refl}
 use mathlib.Core.List.{[], _∷_}
 use Rattle.wire.specs.Memory.{partOf}
-use Rattle.delivery.specs.declared.event.Event.the-variants.{Refused}
-use Rattle.delivery.specs.declared.event.Memory.the-variants.{Packet, Collecting}
+use Rattle.queue.specs.declared.event.Event.the-variants.{Refused}
+use Rattle.queue.specs.declared.event.Memory.the-variants.{Packet, Collecting}
 use Rattle.state.specs.Start.{freshState}
 use Rattle.state.specs.Examples.{due}
 use Rattle.frames.specs.Slot.{shortBy}

@@ -6,19 +6,19 @@ use mathlib.Core.List.{List}
 use lib.ListN.{length, getD, set}
 use borrow.Author.Tests.{ltb-false}
 use lib.Dec.{ltb}
-use Rattle.delivery.specs.Choice.{chosen, chosen-not, neither}
+use Rattle.wire.specs.Choice.{chosen, chosen-not, neither}
 use Rattle.reassembly.specs.declared.config.Config.{Config}
 use Rattle.reassembly.specs.Channel.{unheard}
-use Rattle.delivery.specs.declared.event.Event.{Event as AnEvent}
-use Rattle.delivery.specs.declared.event.Event.the-variants.{Nothing, Refused}
+use Rattle.queue.specs.declared.event.Event.{Event as AnEvent}
+use Rattle.queue.specs.declared.event.Event.the-variants.{Nothing, Refused}
 use Rattle.state.specs.State.{Answer, State, withOwed, withSlot, withQueue, withChannels}
-use Rattle.delivery.specs.declared.packet.Located.{Located}
+use Rattle.queue.specs.declared.located.Located.{Located}
 use Rattle.delivery.specs.declared.packet.Arrived.{Arrived}
 use Rattle.delivery.specs.declared.packet.Arrived.the-variants.{Silent, Noted, Good}
 use Rattle.mmtp.specs.declared.note.PacketNote.{PacketNote}
 use Rattle.delivery.specs.declared.cursor.Found.{Found}
 use Rattle.delivery.specs.declared.cursor.Found.the-variants.{Event, Packet, Tail, Done}
-use Rattle.delivery.specs.Waiting.{Turn}
+use Rattle.delivery.specs.Cursor.{Turn}
 use Rattle.intake.specs.Slot.{packetMemory, holding}
 use Rattle.frames.specs.Slot.{shortBy}
 use Rattle.delivery.specs.Packet.{noteQueue, arrivedAt, joinedOf}

@@ -7,12 +7,13 @@ use native.Mathlib.Omega.{arith}
 use lib.ListN.{length, getD, set}
 use lib.Seq.{set-getD}
 use Rattle.reassembly.specs.Channel.{unheard}
-use Rattle.delivery.specs.declared.event.Event.{Event as AnEvent}
-use Rattle.delivery.specs.declared.event.Event.the-variants.{Nothing}
+use Rattle.queue.specs.declared.event.Event.{Event as AnEvent}
+use Rattle.queue.specs.declared.event.Event.the-variants.{Nothing}
 use Rattle.state.specs.State.{State, withOwed, withSlot, withQueue, withChannels}
 use Rattle.delivery.specs.declared.packet.Arrived.{Arrived}
 use Rattle.delivery.specs.declared.packet.Arrived.the-variants.{Silent, Noted, Good}
-use Rattle.delivery.specs.Waiting.{JoinedPacket, Turn}
+use Rattle.delivery.specs.Packet.{JoinedPacket}
+use Rattle.delivery.specs.Cursor.{Turn}
 use Rattle.delivery.specs.declared.cursor.Found.{Found}
 use Rattle.delivery.specs.declared.cursor.Found.the-variants.{Event, Packet, Tail, Done}
 use Rattle.intake.specs.Slot.{holding}

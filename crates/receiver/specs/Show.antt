@@ -2,9 +2,9 @@
 use Prim.Native.Nat.{ℕ}
 use mathlib.Core.List.{List}
 use Rattle.wire.specs.Memory.{partOf}
-use Rattle.delivery.specs.declared.event.Memory.{Memory}
-use Rattle.delivery.specs.declared.event.Memory.the-variants.{Packet, Collecting}
-use Rattle.delivery.specs.declared.event.Place.{Place}
+use Rattle.queue.specs.declared.event.Memory.{Memory}
+use Rattle.queue.specs.declared.event.Memory.the-variants.{Packet, Collecting}
+use Rattle.queue.specs.declared.event.Place.{Place}
 
 abbrev pub memoryOf : Memory → List ℕ → List ℕ → List ℕ
 memoryOf Packet p c = p

@@ -12,15 +12,17 @@ use Rattle.reassembly.specs.Channel.{unheard}
 use Rattle.words.specs.Channel.{readChannel}
 use Rattle.intake.specs.Slot.{holding}
 use Rattle.words.specs.Cursor.{heldWords, readCursor, cursor-same}
-use Rattle.delivery.specs.declared.event.Event.{Event as AnEvent}
-use Rattle.delivery.specs.declared.event.Event.the-variants.{Nothing}
+use Rattle.queue.specs.declared.event.Event.{Event as AnEvent}
+use Rattle.queue.specs.declared.event.Event.the-variants.{Nothing}
 use Rattle.delivery.specs.declared.cursor.Found.{Found}
 use Rattle.delivery.specs.declared.cursor.Found.the-variants.{Event, Packet, Tail, Done}
-use Rattle.delivery.specs.Waiting.{JoinedPacket, Turn}
+use Rattle.delivery.specs.Packet.{JoinedPacket}
+use Rattle.delivery.specs.Cursor.{Turn}
 use Rattle.delivery.specs.Packet.{arrivedAt, placeOf, receivedOf}
-use Rattle.delivery.specs.Queue.{eventTaken}
+use Rattle.queue.specs.Queue.{eventTaken}
 use Rattle.delivery.specs.Cursor.{turnOf, advancedOf, isEvent, turn-event, turn-on, goesOn, left, turn-less}
-use Rattle.delivery.specs.Words.{readQueue, channelPlace, Takes, Receives}
+use Rattle.queue.specs.Words.{readQueue, Takes}
+use Rattle.delivery.specs.Words.{channelPlace, Receives}
 use Rattle.state.specs.State.{State, withOwed, withSlot, withQueue, withChannels}
 use Rattle.state.specs.Words.{stateIn, Moves}
 use Rattle.receiver.specs.Next.{answered, past, readAll}

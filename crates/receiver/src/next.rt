@@ -5,7 +5,15 @@ ghost use lib.ListN.{length};
 ghost use Rattle.intake.specs.Slot.{holding};
 ghost use Rattle.state.specs.Words.{stateWords, stateIn, Answers, Reads, Moves};
 ghost use Rattle.receiver.specs.Next.{readAll, nextOf};
+use delivery::cursor::Found;
+use delivery::cursor::advance;
+use delivery::cursor::is_event;
+use delivery::packet::receive;
 use frames::slot::is_short;
+use intake::held::Held;
+use queue::event::Event;
+use queue::waiting::take;
+use reassembly::config::Config;
 use state::places::CHANNELS;
 use state::places::CONFIG;
 use state::places::CURSOR;
@@ -13,18 +21,10 @@ use state::places::HELD;
 use state::places::OWED;
 use state::places::QUEUE;
 use state::places::STATE_WORDS;
-use delivery::cursor::Found;
-use delivery::cursor::advance;
-use delivery::cursor::is_event;
-use delivery::event::Event;
-use delivery::packet::receive;
-use delivery::queue::take;
-use intake::held::Held;
+use words::channel::load_config;
 use words::cursor::load_cursor;
 use words::cursor::store_cursor;
 use words::cursor::store_held;
-use reassembly::config::Config;
-use words::channel::load_config;
 
 // A tail is held.
 fn hold(start: usize, len: usize) -> Held

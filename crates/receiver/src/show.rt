@@ -1,8 +1,8 @@
 // Show: a unit's bytes.
 ghost use mathlib.Core.Path.{_≡_};
 ghost use Rattle.receiver.specs.Show.{showOf};
-use delivery::event::Memory;
-use delivery::event::Place;
+use queue::event::Memory;
+use queue::event::Place;
 
 // A part of packet memory for a whole unit, of collecting memory for a joined one; a place outside gives an empty part.
 pub fn show<'a>(packet: &'a [u8], collecting: &'a [u8], place: Place) -> &'a [u8]

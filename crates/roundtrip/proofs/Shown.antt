@@ -2,12 +2,12 @@
 -- accepted, and the round trip says what is shown.
 use Prim.Native.Nat.{ℕ, zero, suc, _+_, _*_, _≤_}
 use mathlib.Core.Path.{_≡_, refl, sym, ap, _∙_}
-use mathlib.Core.Bool.{Bool, true, false}
+use mathlib.Core.Bool.{true, false}
 use mathlib.Core.List.{List, [], _∷_, _++_, map, map-append}
 use native.Mathlib.Nat.{suc-mul}
 use native.Mathlib.Numerals.{add-one}
 use native.Mathlib.Omega.{arith}
-use lib.ListN.{length, take, drop, replicate, length-drop}
+use lib.ListN.{length, drop, replicate, length-drop}
 use lib.Seq.{length-take-le}
 use Rattle.wire.specs.Field.{be, bytesOf}
 use Rattle.wire.specs.Lists.{sift}
@@ -44,7 +44,6 @@ use Rattle.cutter.specs.Slot.{slotAt}
 use Rattle.cutter.specs.Claims.{slotsFrom}
 use Rattle.broadcast.specs.Frames.{none, ownSlots, slotsFrom as frameSlots}
 use Rattle.broadcast.specs.Accepts.{GoodFrame}
-use Rattle.broadcast.specs.Broadcast.{repeated}
 use Rattle.broadcast.proofs.Accepts.{accepts}
 use Rattle.mmtp.specs.Watch.{lookupOf, firstFrom}
 use Rattle.state.specs.Start.{before, twiceBelow, twice, startRefusal, Starts, starts as start-keeps}

@@ -1,42 +1,29 @@
 -- Laws of clean words: what is stored keeps them clean, and clean words that hold the same state are the same.
-use Prim.Native.Nat.{ℕ, _+_, _-_, _*_, _/_, _%_, _<_, _≤_}
+use Prim.Native.Nat.{ℕ, _+_, _-_, _*_, _/_, _<_, _≤_}
 use mathlib.Core.Path.{_≡_, refl, sym, _∙_, ap}
 use mathlib.Core.Bool.{Bool, true, false}
-use mathlib.Core.Logic.{_⊎_, inl, inr}
+use mathlib.Core.Logic.{inl, inr}
 use mathlib.Core.List.{List, [], _∷_}
-use native.Mathlib.Nat.{add-zero, mod-eq-of-lt, div-add-mod'}
+use native.Mathlib.Nat.{add-zero, div-add-mod'}
 use native.Mathlib.Omega.{arith}
 use lib.Dec.{eqb, ltb}
-use lib.ListN.{length, getD, set, length-set}
-use lib.Seq.{getD-set-same, getD-set-other, ext-getD}
+use lib.ListN.{length, getD, set}
+use lib.Seq.{getD-set-same, ext-getD}
 use borrow.Author.Tests.{ltb-true, ltb-false, eqb-true, eqb-false}
 use Rattle.wire.specs.Words.{Holds, Put, Within, Beside, Same, Zeros, zeros-hold, put-within, flagOf, flagWord, flag-back}
 use Rattle.reassembly.specs.declared.config.Config.{Config}
-use Rattle.tmcc.specs.declared.layout.Pointers.{Pointers}
 use Rattle.words.specs.Channel.{readConfig, configWords, config-same, readChannel, channelWords, channel-same, channel-zero-clean}
 use Rattle.words.specs.Channel.{ConfigStored, config-clean}
 use Rattle.intake.specs.declared.held.Held.{Held}
 use Rattle.intake.specs.declared.held.Cursor.{Cursor}
 use Rattle.words.specs.Cursor.{readHeld, heldWords, held-same, held-clean, held-zero-clean}
 use Rattle.words.specs.Cursor.{readCursor, cursorWords, CursorStored, cursor-same, cursor-clean, cursor-zero-clean}
-use Rattle.delivery.specs.Words.{readQueue, queueWords, queue-same, queue-zero-clean, channelPlace, CleanQueue, CleanChannel}
+use Rattle.queue.specs.Words.{readQueue, queueWords, queue-same, queue-zero-clean, CleanQueue}
+use Rattle.delivery.specs.Words.{channelPlace, CleanChannel}
 use Rattle.wire.specs.Tab.{getD-tab}
 use Rattle.reassembly.specs.Channel.{unheard}
 use Rattle.state.specs.State.{State}
-use Rattle.state.specs.Words.{
-  stateWords,
-  pointersIn,
-  lengthIn,
-  ownIn,
-  layoutIn,
-  stateIn,
-  slotWords,
-  CleanSlot,
-  Clean,
-  Exact,
-  LayoutPut,
-  Cleared,
-}
+use Rattle.state.specs.Words.{stateWords, pointersIn, lengthIn, ownIn, layoutIn, stateIn, slotWords, CleanSlot, Clean, Exact, Cleared}
 use Rattle.state.specs.Lent.{kept-words, kept-clean, clean-slot, set-within, channel-in}
 
 pub exact-none : (t : List ℕ) → Exact t t

@@ -1,23 +1,18 @@
 -- Laws of what a call leaves in the words: one change behind another, too few words, a refusal, another state.
 use Prim.Native.Nat.{ℕ, _<_, _≤_}
 use mathlib.Core.Path.{_≡_, refl, sym, _∙_, ap}
-use mathlib.Core.Bool.{true, false}
 use mathlib.Core.List.{List}
 use native.Mathlib.Omega.{arith}
-use lib.ListN.{length, set}
+use lib.ListN.{length}
 use Rattle.wire.specs.Words.{Put, put-within}
-use Rattle.tmcc.specs.declared.layout.Layout.{Layout}
-use Rattle.reassembly.specs.declared.config.Config.{Config}
-use Rattle.words.specs.Channel.{ConfigStored}
 use Rattle.intake.specs.declared.held.Intake.{Intake}
 use Rattle.words.specs.Cursor.{heldWords, CursorStored, cursor-put}
-use Rattle.delivery.specs.declared.event.Event.{Event}
-use Rattle.delivery.specs.declared.event.Event.the-variants.{Refused}
-use Rattle.state.specs.State.{State, Called, Answer, withFrame, withOwed, withSlot, withIntake, refused, accepted}
-use Rattle.state.specs.Words.{stateWords, stateIn, Leaves, Answers, Sets, Cleared, LayoutPut}
-use Rattle.state.specs.Start.{freshState}
-use Rattle.state.specs.Lent.{state-held, state-cursor, state-at, state-owed, state-layout, state-fresh}
-use Rattle.state.specs.Clean.{exact-none, exact-on, exact-held, exact-cursor, exact-at, exact-owed, exact-slots, exact-fresh}
+use Rattle.queue.specs.declared.event.Event.{Event}
+use Rattle.queue.specs.declared.event.Event.the-variants.{Refused}
+use Rattle.state.specs.State.{State, Called, Answer, withSlot, withIntake, refused, accepted}
+use Rattle.state.specs.Words.{stateWords, stateIn, Leaves, Answers, Sets}
+use Rattle.state.specs.Lent.{state-held, state-cursor}
+use Rattle.state.specs.Clean.{exact-none, exact-on, exact-held, exact-cursor}
 
 -- what a slot leaves
 pub state-intake : (t u v : List ℕ) (i : Intake) → Put t u 22 3 (heldWords (i .held)) → CursorStored u v 25 (i .cursor)

@@ -23,10 +23,11 @@ use Rattle.intake.specs.declared.held.Held.{Held}
 use Rattle.intake.specs.declared.held.Cursor.{Cursor}
 use Rattle.words.specs.Cursor.{readHeld, heldWords, held-same, held-put, held-zero}
 use Rattle.words.specs.Cursor.{readCursor, cursor-same, cursor-zero}
-use Rattle.delivery.specs.Waiting.{Queue}
+use Rattle.queue.specs.Waiting.{Queue}
 use Rattle.delivery.specs.Packet.{arrivedAt, placeOf, receivedOf}
 use Rattle.delivery.specs.Within.{arrived-below}
-use Rattle.delivery.specs.Words.{readQueue, queue-same, channelPlace, Receives, queue-zero}
+use Rattle.queue.specs.Words.{readQueue, queue-same, queue-zero}
+use Rattle.delivery.specs.Words.{channelPlace, Receives}
 use Rattle.state.specs.State.{withFrame, withOwed, withSlot, withQueue, withChannels}
 use Rattle.state.specs.Words.{stateWords, pointersIn, lengthIn, ownIn, layoutIn, channelsIn, stateIn}
 use Rattle.state.specs.Words.{Cleared, SlotPut, LayoutPut, slotWords, CleanSlot}

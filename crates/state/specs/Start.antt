@@ -17,9 +17,9 @@ use Rattle.reassembly.specs.Channel.{unheard}
 use Rattle.tmcc.specs.Layout.{blankLayout}
 use Rattle.state.specs.State.{State, Called, refused, accepted}
 use Rattle.state.specs.Tests.{passed}
-use Rattle.delivery.specs.Choice.{neither}
+use Rattle.wire.specs.Choice.{neither}
 use Rattle.intake.specs.Slot.{searching, noted}
-use Rattle.delivery.specs.Queue.{empty}
+use Rattle.queue.specs.Queue.{empty}
 
 abbrev pub isAt : Found → Bool
 isAt (At k) = true

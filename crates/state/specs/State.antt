@@ -6,8 +6,8 @@ use Rattle.reassembly.specs.declared.channel.Channel.{Channel}
 use Rattle.intake.specs.declared.held.Held.{Held}
 use Rattle.intake.specs.declared.held.Cursor.{Cursor}
 use Rattle.intake.specs.declared.held.Intake.{Intake}
-use Rattle.delivery.specs.Waiting.{Queue}
-use Rattle.delivery.specs.declared.event.Event.{Event}
+use Rattle.queue.specs.Waiting.{Queue}
+use Rattle.queue.specs.declared.event.Event.{Event}
 use Rattle.reassembly.specs.declared.config.Config.{Config}
 use Rattle.tmcc.specs.declared.layout.Layout.{Layout}
 

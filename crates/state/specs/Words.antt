@@ -12,12 +12,12 @@ use Rattle.tmcc.specs.declared.layout.Pointers.{Pointers}
 use Rattle.reassembly.specs.declared.channel.Channel.{Channel}
 use Rattle.words.specs.Channel.{readConfig, configWords, readChannel}
 use Rattle.words.specs.Cursor.{readHeld, heldWords, readCursor, cursorWords}
-use Rattle.delivery.specs.declared.event.Event.{Event}
-use Rattle.delivery.specs.declared.event.Event.the-variants.{Refused}
+use Rattle.queue.specs.declared.event.Event.{Event}
+use Rattle.queue.specs.declared.event.Event.the-variants.{Refused}
 use Rattle.delivery.specs.declared.cursor.Found.{Found}
-use Rattle.delivery.specs.declared.cursor.Advanced.{Advanced}
 use Rattle.delivery.specs.Cursor.{advancedOf}
-use Rattle.delivery.specs.Words.{readQueue, channelPlace, CleanQueue, CleanChannel}
+use Rattle.queue.specs.Words.{readQueue, CleanQueue}
+use Rattle.delivery.specs.Words.{channelPlace, CleanChannel}
 use Rattle.state.specs.State.{State, Called, Answer}
 
 -- how many words

@@ -5,9 +5,9 @@ ghost use lib.ListN.{length};
 ghost use Rattle.state.specs.State.{withFrame};
 ghost use Rattle.state.specs.Words.{stateWords, pointersIn, lengthIn, ownIn, stateIn, Sets};
 ghost use Rattle.state.specs.Words.{SlotPut, LayoutPut};
-use words::cursor::flag;
 use tmcc::layout::Layout;
 use tmcc::layout::Pointers;
+use words::cursor::flag;
 
 // What start was given.
 pub const CONFIG: usize = 0;

@@ -1,6 +1,6 @@
 -- The row of packets: the own live slots' bytes, each with its slot's label, from the first top pointer on, cut into packets.
 use Prim.Native.Nat.{ℕ, zero, suc}
-use mathlib.Core.Bool.{Bool, cond}
+use mathlib.Core.Bool.{cond}
 use mathlib.Core.List.{List, [], _∷_, _++_, map}
 use lib.ListN.{length, take, drop}
 use lib.Dec.{eqb}

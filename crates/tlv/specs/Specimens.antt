@@ -8,7 +8,7 @@ use Rattle.tlv.specs.declared.note.SlotNote.the-variants.{Misfit, TooLon
 use Rattle.tlv.specs.declared.held.Continuation.the-variants.{Dropped, Ends, GoesOn}
 use Rattle.wire.specs.Field.{be}
 use Rattle.tlv.specs.Packet.{goodFirst, total, complete, tooLong, marked, cutBy, cut}
-use Rattle.tlv.specs.Slot.{none, endFrom, lastPointer, sound, slotNote}
+use Rattle.tlv.specs.Slot.{endFrom, lastPointer, sound, slotNote}
 use Rattle.tlv.specs.Held.{endWithin, endBeyond, heldTotal, heldEnd, continuationOf, noteOf}
 
 -- a slot of 1870 bytes that is one packet: its length field is 0x074a, 1866

@@ -2,10 +2,10 @@
 ghost use mathlib.Core.Path.{_≡_};
 ghost use lib.ListN.{length};
 ghost use Rattle.tlv_capture.specs.Pump.{freshPump, wantsOf, filledOf, Refilled, anyOf, FedOn, PouredOn, toldOf, goesOn};
-use feeding::feed::feed;
-use feeding::feed::is_ended;
 use capture::pour::pour;
 use capture::session::Session;
+use feeding::feed::feed;
+use feeding::feed::is_ended;
 use libc::STDIN_FILENO;
 use wire::memory::distance;
 use wire::memory::part;

@@ -1,15 +1,15 @@
 -- A memory with bytes put into it, and a part of a memory.
-use Prim.Native.Nat.{ℕ, suc, _+_, _-_, _<_, _≤_}
+use Prim.Native.Nat.{ℕ, zero, suc, _+_, _-_, _<_, _≤_}
 use mathlib.Core.Path.{_≡_, refl, sym, _∙_, ap}
 use mathlib.Core.Bool.{Bool, true, false, cond}
-use mathlib.Core.List.{List, [], _∷_, _++_, append-assoc}
-use native.Mathlib.Nat.{add-zero, add-assoc}
+use mathlib.Core.List.{List, [], _++_, append-assoc}
+use native.Mathlib.Nat.{add-assoc}
 use native.Mathlib.Numerals.{add-one}
 use native.Mathlib.Omega.{arith}
-use lib.ListN.{length, getD, set, take, drop, length-append, length-take, length-drop}
+use lib.ListN.{length, getD, set, take, drop, length-take, length-drop}
 use borrow.Author.Tests.{le-leb, lt-leb, leb-true}
 use lib.Dec.{leb}
-use lib.Seq.{paste, paste-zero, paste-suc, length-paste, take-paste, drop-paste, drop-drop, take-all, take-length, take-append-add}
+use lib.Seq.{paste, paste-zero, paste-suc, length-paste, take-paste, drop-paste, drop-drop, take-all, take-length, take-append-add, take-take, length-take-le}
 
 -- `d` with its `n` bytes from `at` replaced by the first `n` of `s`
 unfoldable pub pasted : List ℕ → ℕ → List ℕ → ℕ → List ℕ
@@ -62,3 +62,38 @@ pasted-append d at s t h =
     sym (drop-drop n (at + m) (paste d at s m)) ∙ ap (drop n) (drop-paste d at s m (omega arith) (omega arith)) ∙ drop-drop n (at + m) d in
     rw (take-paste d at s m (omega arith) (omega arith), q, take-append-add s t n, take-length s, take-length t, ← add-assoc at m n)
     (ap (λ (l : List ℕ). l ++ drop (at + m + n) d) (append-assoc (take at d) s t))
+
+-- where a part lies
+module _ (s : List ℕ) (start len : ℕ) where
+  abbrev Lies : List ℕ → Type 0
+  Lies b = (0 < length b → start + length b ≤ length s) × (length b ≤ len)
+
+  part-by : (a b : Bool) → leb start (length s) ≡ a → leb len (length s - start) ≡ b
+      → Lies (cond a (cond b (take len (drop start s)) []) [])
+  part-by false b p q = (λ h. omega arith, omega arith)
+  part-by true false p q = (λ h. omega arith, omega arith)
+  part-by true true p q =
+      let l = leb-true start (length s) p in
+      let t = length-take len (drop start s) in
+      let d = length-drop start s in
+      (λ h. omega arith, omega arith)
+
+  -- it lies in the memory, unless it is empty
+  pub part-within : 0 < length (partOf s start len) → start + length (partOf s start len) ≤ length s
+  unfolding partOf
+  part-within = part-by (leb start (length s)) (leb len (length s - start)) refl refl .0
+
+  pub part-length : length (partOf s start len) ≤ len
+  unfolding partOf
+  part-length = part-by (leb start (length s)) (leb len (length s - start)) refl refl .1
+
+-- so places in it are numbers, as all of the memory's are
+pub part-reach : (s : List ℕ) (start len k n : ℕ) → start < n → length s < n → k ≤ length (partOf s start len) → start + k < n
+part-reach s start len zero n h l e = omega arith
+part-reach s start len (suc k) n h l e = let w = part-within s start len (omega arith) in omega arith
+
+-- the first bytes of a list, put into a memory
+pub pasted-take : (d : List ℕ) (at : ℕ) (s : List ℕ) (n : ℕ) → n ≤ length s
+    → pasted d at (take n s) (length (take n s)) ≡ pasted d at s n
+unfolding pasted
+pasted-take d at s n h = let e : length (take n s) ≡ n = length-take-le n s h in rw (e, take-take n n s (omega arith))

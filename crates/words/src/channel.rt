@@ -4,15 +4,15 @@ ghost use Prim.Native.Nat.{_+_, _≤_};
 ghost use lib.ListN.{length};
 ghost use Rattle.words.specs.Channel.{phaseOf, phaseWord, readFields, readUnit, readChannel, readIds, readConfig};
 ghost use Rattle.words.specs.Channel.{FieldsStored, UnitStored, HeardStored, ChannelStored, IdsStored, ConfigStored};
+use mmtp::header::Psn;
+use mmtp::unit::Fields;
+use mmtp::watch::Watch;
 use reassembly::channel::Channel;
 use reassembly::channel::OpenUnit;
 use reassembly::channel::Phase;
 use reassembly::config::Config;
 use reassembly::config::Rules;
 use reassembly::unit::Unit;
-use mmtp::header::Psn;
-use mmtp::unit::Fields;
-use mmtp::watch::Watch;
 
 // The words of one packet_id's state.
 pub const CHANNEL_WORDS: usize = 14;

@@ -1,21 +1,18 @@
 -- Why read_events meets its contract: what was given, and what next gives from here on, is the same throughout.
 use Prim.Native.Nat.{ℕ, suc, _+_, _-_, _*_, _/_, _<_, _≤_}
-use mathlib.Core.Path.{_≡_, refl, sym, _∙_, ap}
-use mathlib.Core.List.{List}
+use mathlib.Core.Path.{_≡_, refl, sym, _∙_}
 use native.Mathlib.Nat.{div-add-mod'}
 use native.Mathlib.Omega.{arith}
 use borrow.Author.Needs.{needs}
 use borrow.Author.Tests.{not-true, not-false}
 use lib.ListN.{length}
-use Rattle.delivery.specs.declared.event.Event.the-variants.{Nothing}
 use Rattle.state.specs.Words.{stateWords, stateIn, Exact}
 use Rattle.frames.specs.Slot.{shortBy}
-use Rattle.receiver.specs.Next.{answered, nextOf, next-idle, next-reads, short-room}
+use Rattle.receiver.specs.Next.{nextOf, next-idle, next-reads, short-room}
 use Rattle.receiver.specs.ReadOn.{next-calm}
 use Rattle.state.specs.Clean.{exact-none, exact-on}
-use Rattle.calls.specs.Record.{recordWords}
 use mathlib.Core.Bool.{true, false}
-use Rattle.calls.specs.Events.{Many, isGiven, eventsOf, eventsLeft, event-put, gave, gave-start, gave-full, gave-none, gave-last, gave-on}
+use Rattle.calls.specs.Events.{isGiven, eventsOf, eventsLeft, event-put, gave, gave-start, gave-full, gave-none, gave-last, gave-on}
 use Rattle.calls.proofs.events.read_events.Statement.{statement}
 use Rattle.calls.proofs.events.read_events.Tie as tie
 

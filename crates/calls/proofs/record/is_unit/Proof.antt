@@ -1,10 +1,8 @@
 -- Why is_unit meets its contract: each word within its bounds, and the first one 2.
-use mathlib.Core.Path.{_≡_, sym, _∙_}
-use mathlib.Core.Bool.{false}
+use mathlib.Core.Path.{sym, _∙_}
 use native.Mathlib.Omega.{arith}
 use borrow.Author.Needs.{needs}
 use borrow.Author.Tests.{not-true, not-false}
-use lib.ListN.{length}
 use Rattle.calls.specs.Record.{unitMost, unit-not, unit-first, within-length}
 use Rattle.calls.proofs.record.is_unit.Statement.{statement}
 use Rattle.calls.proofs.record.is_unit.Tie as tie

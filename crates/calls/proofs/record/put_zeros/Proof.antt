@@ -1,6 +1,6 @@
 -- Why put_zeros meets its contract: after j turns j words are 0.
 use Prim.Native.Nat.{ℕ, _-_, _≤_}
-use mathlib.Core.Path.{_≡_, sym, ap}
+use mathlib.Core.Path.{_≡_}
 use native.Mathlib.Omega.{arith}
 use lib.ListN.{replicate, getD-replicate}
 use Rattle.wire.specs.Words.{Put, put-start, put-next}

@@ -1,12 +1,11 @@
 -- Why start_by meets its contract: too few words, settings that cannot be, or start.
-use mathlib.Core.List.{List, []}
-use mathlib.Core.Path.{sym, _∙_, ap, subst}
+use mathlib.Core.List.{[]}
+use mathlib.Core.Path.{sym, _∙_, ap}
 use native.Mathlib.Omega.{arith}
 use borrow.Author.Needs.{needs}
 use borrow.Author.Tests.{not-true, not-false}
 use Rattle.state.specs.Leaves.{leaves-short, leaves-refused}
 use Rattle.state.specs.State.{Called}
-use Rattle.state.specs.Words.{Starts}
 use Rattle.calls.specs.Settings.{start-by, start-not, settings-length}
 use Rattle.calls.proofs.settings.start_by.Statement.{statement}
 use Rattle.calls.proofs.settings.start_by.Tie as tie

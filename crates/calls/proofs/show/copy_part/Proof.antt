@@ -1,5 +1,5 @@
 -- Why copy_part meets its contract: an output that is too short, or a copy.
-use mathlib.Core.Path.{sym, _∙_}
+use mathlib.Core.Path.{sym}
 use native.Mathlib.Omega.{arith}
 use borrow.Author.Needs.{needs}
 use Rattle.calls.specs.Show.{copied-short, copied-whole}

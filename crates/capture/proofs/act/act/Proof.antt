@@ -1,5 +1,5 @@
 -- Why `act` meets its contract: the command does not fit, is accepted, or is refused.
-use mathlib.Core.Path.{refl, sym, _∙_}
+use mathlib.Core.Path.{sym, _∙_}
 use borrow.Author.Tests.{not-true, not-false}
 use Rattle.capture.specs.Command.{size-by}
 use Rattle.capture.specs.Steps.{acted-unknown, acted-accepted, acted-refused}

@@ -1,12 +1,11 @@
 -- Why is_unlisted meets its contract: no code rate so far has the length.
-use Prim.Native.Nat.{_+_, _-_, _≤_}
+use Prim.Native.Nat.{_-_, _≤_}
 use mathlib.Core.Path.{_≡_, refl, sym, _∙_}
 use mathlib.Core.Bool.{true}
 use native.Mathlib.Omega.{arith}
 use borrow.Author.Tests.{eq-eqb, ne-eqb}
 use borrow.Author.Needs.{needs}
 use Rattle.tmcc.specs.Count.{allBelow, all-one, all-below-false}
-use Rattle.tmcc.specs.Mode.{dataBytes}
 use Rattle.cutter.specs.Slot.{unlisted, otherRate}
 use Rattle.cutter.proofs.slot.is_unlisted.Statement.{statement}
 use Rattle.cutter.proofs.slot.is_unlisted.Tie as tie

@@ -2,7 +2,7 @@
 use lib.ListN.{length}
 use Prim.Native.Nat.{_<_, _≤_, _-_}
 use native.Mathlib.Omega.{arith}
-use Rattle.delivery.specs.Within.{part-within}
+use Rattle.wire.specs.Memory.{part-within}
 use Rattle.delivery.specs.Packet.{arrived-silent, arrived-noted, arrived-mmtp}
 use Rattle.mmtp.specs.Flow.{flowOf, mmtp-place}
 use Rattle.wire.specs.Memory.{partOf, slice-rest}

@@ -4,10 +4,11 @@ use mathlib.Core.Path.{_≡_}
 use mathlib.Core.Bool.{Bool, true, false}
 use mathlib.Core.List.{List}
 use Rattle.mmtp.specs.declared.unit.DataUnit.{DataUnit}
-use Rattle.delivery.specs.declared.packet.Located.{Located}
-use Rattle.delivery.specs.Waiting.{One, Many}
-use Rattle.delivery.specs.Packet.{wholeGiven, wholesOf}
-use Rattle.delivery.specs.Words.{GiveStored}
+use Rattle.queue.specs.declared.located.Located.{Located}
+use Rattle.queue.specs.Waiting.{One, Many}
+use Rattle.queue.specs.Located.{wholeGiven}
+use Rattle.delivery.specs.Packet.{wholesOf}
+use Rattle.queue.specs.Words.{GiveStored}
 use borrow.Author.Needs.{needs}
 use Rattle.delivery.proofs.packet.give_wholes.Statement.{statement}
 use Rattle.delivery.proofs.packet.give_wholes.Tie as tie

@@ -5,7 +5,8 @@ use mathlib.Core.Path.{_≡_}
 use native.Mathlib.Omega.{arith}
 use lib.ListN.{length}
 use Rattle.words.specs.Channel.{readChannel}
-use Rattle.delivery.specs.Within.{part-reach, joined-reach, first-inside, joined-room}
+use Rattle.wire.specs.Memory.{part-reach}
+use Rattle.delivery.specs.Within.{joined-reach, first-inside, joined-room}
 use Rattle.delivery.specs.Packet.{bytesAt, unitIn, stepOf}
 use Rattle.delivery.specs.Words.{channelPlace}
 use Rattle.delivery.specs.Joining.{joins-by}

@@ -1,5 +1,5 @@
 -- Why `store_piece` meets its contract: the data unit's bytes are copied.
-use Rattle.delivery.specs.Within.{pasted-take}
+use Rattle.wire.specs.Memory.{pasted-take}
 use lib.ListN.{length, drop, length-drop}
 use Prim.Native.Nat.{_-_, _≤_}
 use mathlib.Core.Path.{_∙_}

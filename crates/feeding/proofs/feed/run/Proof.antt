@@ -1,5 +1,5 @@
 -- Why `run` meets its contract: the command is not whole, or is carried out.
-use mathlib.Core.Path.{refl, sym, _∙_}
+use mathlib.Core.Path.{sym}
 use Rattle.feeding.specs.Feed.{ran-part, ran-whole}
 use borrow.Author.Needs.{needs}
 use Rattle.state.specs.Clean.{exact-none, exact-on}

@@ -2,7 +2,6 @@
 use mathlib.Core.Bool.{true}
 use mathlib.Core.Path.{_∙_, ap}
 use native.Mathlib.Omega.{arith}
-use lib.ListN.{length-set}
 use Rattle.wire.specs.Words.{flagOf}
 use Rattle.state.specs.Lent.{state-owed}
 use Rattle.frames.specs.Frame.{lossOf}

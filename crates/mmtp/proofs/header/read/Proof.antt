@@ -4,20 +4,7 @@ use mathlib.Core.Path.{_≡_, sym, _∙_}
 use native.Mathlib.Omega.{arith}
 use lib.ListN.{length}
 use Rattle.wire.specs.Bits.{bits-shift, bits-mask}
-use Rattle.mmtp.specs.Header.{
-  first,
-  payloadStart,
-  plain,
-  plain-good,
-  other-version,
-  other-fec,
-  start-low,
-  start-at,
-  start-short,
-  header-cut,
-  header-other,
-  header-good,
-}
+use Rattle.mmtp.specs.Header.{payloadStart, plain-good, other-version, other-fec, start-low, start-at, start-short, header-cut, header-other, header-good}
 use borrow.Author.Needs.{needs}
 use Rattle.mmtp.proofs.header.read.Statement.{statement}
 use Rattle.mmtp.proofs.header.read.Tie as tie

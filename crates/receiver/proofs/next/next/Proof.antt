@@ -4,8 +4,8 @@ use mathlib.Core.List.{List}
 use mathlib.Core.Path.{_≡_, sym, _∙_, ap, subst}
 use native.Mathlib.Omega.{arith}
 use Rattle.delivery.specs.Cursor.{left}
-use Rattle.delivery.specs.declared.event.Event.the-variants.{Refused}
-use Rattle.delivery.specs.declared.event.Event.{Event}
+use Rattle.queue.specs.declared.event.Event.the-variants.{Refused}
+use Rattle.queue.specs.declared.event.Event.{Event}
 use Rattle.state.specs.Lent.{owed-on, owed-off, config-in}
 use Rattle.state.specs.Leaves.{answers-short, answers-kept}
 use Rattle.receiver.specs.Next.{NextOut, readAll, next-short, next-idle, next-reads, short-room}

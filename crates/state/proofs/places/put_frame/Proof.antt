@@ -1,7 +1,6 @@
 -- Why put_frame meets its contract: another layout, and slot 1 is due.
 use mathlib.Core.Path.{_∙_, ap}
 use native.Mathlib.Omega.{arith}
-use lib.ListN.{length-set}
 use Rattle.state.specs.Lent.{state-at, state-layout}
 use Rattle.state.specs.State.{State, withFrame}
 use borrow.Author.Needs.{needs}
