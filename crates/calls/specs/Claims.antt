@@ -18,7 +18,8 @@ use Rattle.state.specs.Start.{startFrom}
 use Rattle.receiver.specs.Show.{showOf}
 use Rattle.calls.specs.Bounds.{areWithin}
 use Rattle.calls.specs.Settings.{most64, settingsMost, startBy}
-use Rattle.calls.specs.Record.{recordWords, memoryWord, unitRecord, readPlace}
+use Rattle.queue.specs.Words.{memoryWord}
+use Rattle.calls.specs.Record.{recordWords, unitRecord, readPlace}
 use Rattle.calls.specs.Events.{Many, isGiven, isJoined, putEvent, nextCall, eventsOf, putEvents, eventsCall}
 use Rattle.calls.specs.Show.{showCall}
 

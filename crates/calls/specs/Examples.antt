@@ -24,6 +24,7 @@ use Rattle.state.specs.Start.{before, twiceBelow, twice, freshState, startRefus
 use Rattle.frames.specs.Slot.{shortBy}
 use Rattle.receiver.specs.Next.{readOn, readAll, nextOf}
 use Rattle.receiver.specs.Show.{showOf}
+use Rattle.queue.specs.Words.{memoryAt, memoryWord}
 use Rattle.calls.specs.Bounds.{areWithin}
 use Rattle.calls.specs.Settings.{most16, most64, settingsMost, startBy}
 use Rattle.calls.specs.Record.{noteRecord, unitRecord, eventRecord, readPlace, readEvent, unitMost, isUnitRecord}
@@ -88,7 +89,7 @@ Records =
     × (isUnitRecord (2 ∷ (replicate 22 0 ++ 1 ∷ [])) ≡ false) × (isUnitRecord (2 ∷ replicate 22 0) ≡ false)
 
 records : Records
-unfolding eventRecord noteRecord unitRecord unitWords fieldWords readEvent readPlace readUnit readFields isUnitRecord areWithin unitMost
+unfolding eventRecord noteRecord unitRecord unitWords fieldWords memoryWord memoryAt readEvent readPlace readUnit readFields isUnitRecord areWithin unitMost
 records = (refl, refl, refl, refl, refl, refl, refl, refl, refl, refl, refl)
 
 -- next is owed: a unit of a packet waits, and then note 41 of the slot
@@ -124,7 +125,7 @@ Events =
     × (eventsCall (waiting Collecting) packet collecting (replicate 49 9) 5 .4 ≡ unitWritten ++ replicate 25 9)
 
 events : Events
-unfolding nextCall nextLeft eventsCall eventsOf putEvents putFrom eventRecord noteRecord unitRecord unitWords fieldWords nextOf readAll readOn turnOf
+unfolding nextCall nextLeft eventsCall eventsOf putEvents putFrom eventRecord noteRecord unitRecord unitWords fieldWords memoryWord nextOf readAll readOn turnOf
     advancedOf eventTaken left shortBy freshState blankLayout unheard tab
 events = (refl, refl, refl, refl, refl, refl, refl, refl, refl, refl, refl, refl, refl, refl)
 
@@ -137,7 +138,7 @@ Shows =
     × (showCall (4 ∷ 5 ∷ []) [] (2 ∷ 0 ∷ 0 ∷ 1 ∷ 2 ∷ replicate 19 0) (9 ∷ []) 7 ≡ (0, 0, 9 ∷ []))
 
 shows : Shows
-unfolding showCall copied showOf partOf pasted readPlace
+unfolding showCall copied showOf partOf pasted readPlace memoryAt
 shows = (refl, refl, refl, refl)
 
 pub examples : Starts × Records × Events × Shows

@@ -13,6 +13,7 @@ use Rattle.wire.specs.Words.{Put, holds-front, holds-behind, holds-put}
 use Rattle.words.specs.Channel.{readUnit, unitWords, fieldWords, SizedUnit, length-unit, unit-put}
 use Rattle.queue.specs.declared.event.Memory.{Memory}
 use Rattle.queue.specs.declared.event.Memory.the-variants.{Packet, Collecting}
+use Rattle.queue.specs.Words.{memoryAt, memoryWord, memory-back}
 use Rattle.queue.specs.declared.event.Place.{Place}
 use Rattle.queue.specs.declared.event.Given.{Given}
 use Rattle.queue.specs.declared.event.Event.{Event}
@@ -22,14 +23,6 @@ use Rattle.calls.specs.Settings.{most8, most16, most32, most64}
 
 abbrev pub recordWords : ℕ
 recordWords = 24
-
--- the memory that a place is in
-abbrev pub memoryWord : Memory → ℕ
-memoryWord Packet = 0
-memoryWord Collecting = 1
-
-abbrev pub memoryOf : ℕ → Memory
-memoryOf n = cond (eqb n 0) Packet Collecting
 
 -- a note: its number and its packet_id
 unfoldable pub noteRecord : ℕ → ℕ → List ℕ
@@ -51,7 +44,7 @@ eventRecord (Refused n) = replicate 24 0
 
 -- the record whose words begin at i
 unfoldable pub readPlace : List ℕ → ℕ → Place
-readPlace t i = record { memory = memoryOf (getD t (i + 2) 0); start = getD t (i + 3) 0; len = getD t (i + 4) 0 }
+readPlace t i = record { memory = memoryAt (getD t (i + 2) 0); start = getD t (i + 3) 0; len = getD t (i + 4) 0 }
 
 unfoldable pub readEvent : List ℕ → ℕ → Event
 readEvent t i =
@@ -90,10 +83,6 @@ pub record EventStored (before after : List ℕ) (i : ℕ) (e : Event) : Type 0 
   pub sized : SizedEvent e
 
 -- Laws.
-
-pub memory-back : (m : Memory) → memoryOf (memoryWord m) ≡ m
-memory-back Packet = refl
-memory-back Collecting = refl
 
 pub length-record : (e : Event) → length (eventRecord e) ≡ 24
 unfolding eventRecord noteRecord unitRecord unitWords fieldWords
@@ -176,6 +165,7 @@ module _ (g : Given) (s : SizedUnit (g .unit)) where
       })
 
   memory-most : (m : Memory) → leb (memoryWord m) most64 ≡ true
+  unfolding memoryWord
   memory-most Packet = refl
   memory-most Collecting = refl
 

@@ -4,13 +4,15 @@ ghost use mathlib.Core.List.{[], _∷_};
 ghost use Prim.Native.Nat.{_+_, _≤_};
 ghost use lib.ListN.{length, replicate};
 ghost use Rattle.wire.specs.Words.{Put};
-ghost use Rattle.calls.specs.Record.{memoryWord, memoryOf, noteRecord, unitRecord, readPlace, isUnitRecord};
+ghost use Rattle.calls.specs.Record.{noteRecord, unitRecord, readPlace, isUnitRecord};
 ghost use Rattle.calls.specs.Record.{NoteStored, UnitRecordStored, EventStored};
 use crate::bounds::are_within;
 use queue::event::Event;
 use queue::event::Given;
 use queue::event::Memory;
 use queue::event::Place;
+use queue::waiting::memory_number;
+use queue::waiting::memory_of;
 use words::channel::store_unit;
 
 // What it is; a note's number; a unit's place; what a unit carries, of a note its packet_id; words for later fields.
@@ -26,15 +28,6 @@ fn put_zeros(t: &mut [u64], i: usize, n: usize)
     while j < n {
         t[i + j] = 0;
         j += 1;
-    }
-}
-
-fn memory_number(memory: Memory) -> u64
-    ensures { λ r. ⌜ r ≡ memoryWord memory ⌝ }
-{
-    match memory {
-        Memory::Packet => 0,
-        Memory::Collecting => 1,
     }
 }
 
@@ -78,15 +71,6 @@ pub(crate) fn put_event(t: &mut [u64], i: usize, event: Event)
         Event::Unit(given) => put_unit(t, i, given),
         Event::Refused(_) => put_zeros(t, i, 24),
     }
-}
-
-fn memory_of(n: u64) -> Memory
-    ensures { λ r. ⌜ r ≡ memoryOf n ⌝ }
-{
-    if n == 0 {
-        return Memory::Packet;
-    }
-    Memory::Collecting
 }
 
 // The place that a record has.

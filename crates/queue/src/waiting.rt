@@ -28,7 +28,7 @@ use words::cursor::flag;
 // An aggregate: 4 to 13 its packet, 14 to 16 where that stands, and the next unit's place in it.
 pub const QUEUE_WORDS: usize = 17;
 
-fn memory_of(n: u64) -> Memory
+pub fn memory_of(n: u64) -> Memory
     ensures { λ r. ⌜ r ≡ memoryAt n ⌝ }
 {
     if n == 0 {
@@ -37,7 +37,7 @@ fn memory_of(n: u64) -> Memory
     Memory::Collecting
 }
 
-fn memory_number(memory: Memory) -> u64
+pub fn memory_number(memory: Memory) -> u64
     ensures { λ r. ⌜ r ≡ memoryWord memory ⌝ }
 {
     match memory {

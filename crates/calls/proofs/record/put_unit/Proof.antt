@@ -8,7 +8,8 @@ use borrow.Author.Needs.{needs}
 use lib.ListN.{length-set, length-append, replicate}
 use Rattle.wire.specs.Words.{putFrom, stores, put-on}
 use Rattle.words.specs.Channel.{unitWords, length-unit}
-use Rattle.calls.specs.Record.{unitRecord, memoryWord}
+use Rattle.queue.specs.Words.{memoryWord}
+use Rattle.calls.specs.Record.{unitRecord}
 use Rattle.calls.proofs.record.put_unit.Statement.{statement}
 use Rattle.calls.proofs.record.put_unit.Tie as tie
 
