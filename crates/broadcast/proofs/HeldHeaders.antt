@@ -7,7 +7,7 @@ use native.Mathlib.Omega.{arith}
 use lib.ListN.{length}
 use lib.Dec.{eqb}
 use borrow.Author.Tests.{eqb-true}
-use Rattle.wire.specs.Choice.{either}
+use Rattle.wire.specs.Choice.{either, by-test}
 use Rattle.tmcc.specs.declared.layout.Pointers.{Pointers}
 use Rattle.tmcc.specs.Block.{decodeOf}
 use Rattle.tlv.specs.Packet.{marked}
@@ -23,7 +23,6 @@ use Rattle.queue.specs.declared.event.Event.the-variants.{Nothing, Note, Unit, 
 use Rattle.delivery.specs.declared.cursor.Found.{Found}
 use Rattle.delivery.specs.declared.cursor.Found.the-variants.{Event as AnEvent, Packet, Tail, Done}
 use Rattle.queue.specs.Waiting.{Queue}
-use Rattle.wire.specs.Choice.{by-test}
 use Rattle.delivery.specs.Cursor.{advancedOf, turnBy, turnOf, left}
 use Rattle.queue.specs.Queue.{eventTaken}
 use Rattle.state.specs.State.{State, Called, withSlot, withQueue}
@@ -35,8 +34,7 @@ use Rattle.receiver.specs.ReadOn.{packet-kept}
 use Rattle.broadcast.specs.Drains.{HeldIs}
 use Rattle.broadcast.specs.Pending.{cursorLeaves}
 use Rattle.broadcast.specs.SlotClaims.{Short, CursorGood, Same, slotFrom, Advances}
-use Rattle.broadcast.specs.Calls.{Machine, Call, frame, lost-frame, slot, lost-slot, next, did}
-use Rattle.broadcast.specs.Calls.{Made, own, shows, added, machineAfter, machineAfterAll}
+use Rattle.broadcast.specs.Calls.{Machine, Call, frame, lost-frame, slot, lost-slot, next, did, Made, own, shows, added, machineAfter, machineAfterAll}
 use Rattle.broadcast.specs.Demand3.{started}
 use Rattle.broadcast.specs.HeldHeaders.{HeldHeader, HeldHeaders}
 use Rattle.broadcast.proofs.Advance.{advance, still-good}

@@ -109,7 +109,7 @@ abbrev pub SettingsClaim : Type 0
 SettingsClaim = (st : State) (c : Config) → SizedConfig c → c .watch .n ≤ most64 → c .rules .limit ≤ most64
     → startBy st (settingsOf c) ≡ startFrom st c
 
--- the record of a unit, word by word
+-- the record of a unit, word by word; a memory is 0 for packet memory and 1 for collecting memory (`memoryWord`, of `queue`)
 abbrev pub RecordClaim : Type 0
 RecordClaim = (g : Given) → let u = g .unit in let f = u .fields in
     unitRecord g

@@ -15,11 +15,10 @@ use Rattle.capture.specs.declared.command.Letter.{Letter}
 use Rattle.capture.specs.declared.command.Letter.the-variants.{Start, Frame, LostFrame, Slot, LostSlot, Unknown}
 use Rattle.capture.specs.declared.session.Phase.{Phase}
 use Rattle.capture.specs.declared.session.Phase.the-variants.{Before, Reading, Ended}
-use Rattle.capture.specs.Session.{Session, isEnded, busy, withState, inPhase, withTally, inFrame, inSlot, withUnit, withNote}
+use Rattle.capture.specs.Session.{Session, isEnded, busy, withState, inPhase, withTally, inFrame, inSlot, withUnit, withNote, freshSession}
 use Rattle.capture.specs.declared.session.Tally.{Tally}
 use Rattle.lines.specs.Line.{isLine, unitLine, noteLine, refusedLine, endLine}
 use Rattle.capture.specs.Command.{letterOf, sizeOf, whole, configOf}
-use Rattle.capture.specs.Session.{freshSession}
 use Rattle.capture.specs.Waits.{waits}
 
 -- "C comes first and once; another order counts as unknown"

@@ -21,8 +21,7 @@ use Rattle.lines.specs.Line.{field, refusedLine, endLine}
 use Rattle.capture.specs.Command.{letterOf, slotSize, sizeOf, whole, idsOf, configOf}
 use Rattle.capture.specs.Session.{freshSession}
 use Rattle.capture.specs.Waits.{queueWaits, cursorWaits, waitsBy}
-use Rattle.capture.specs.Capture.{callOf, afterCall, doneOf, eventLine, tallied, closed, drainedBy, drainedOf, textBy}
-use Rattle.capture.specs.Capture.{textOf, captureOf}
+use Rattle.capture.specs.Capture.{callOf, afterCall, doneOf, eventLine, tallied, closed, drainedBy, drainedOf, textBy, textOf, captureOf}
 
 -- C with stream 0x0102, CID 2, n ids, the first of them 17, and R = 16
 abbrev start : ℕ → List ℕ

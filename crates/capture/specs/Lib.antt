@@ -1,4 +1,4 @@
--- The text of a capture, from its bytes to its lines, and what feeding in blocks comes to.
+-- The text of a capture, from its bytes to its lines, and what its functions write of it.
 pub mod Command
 pub mod Session
 pub mod Waits

@@ -8,7 +8,7 @@ use native.Mathlib.Omega.{arith}
 use borrow.Author.Tests.{eqb-true, eqb-false}
 use lib.ListN.{length, drop}
 use lib.Dec.{eqb, leb}
-use Rattle.wire.specs.Memory.{partOf}
+use Rattle.wire.specs.Memory.{partOf, part-within}
 use Rattle.tlv.specs.declared.packet.Next.{Next}
 use Rattle.tlv.specs.declared.packet.Next.the-variants.{Packet as PacketTo, Tail as TailAt}
 use Rattle.tlv.specs.Packet.{packetAt, tooLong}
@@ -22,11 +22,8 @@ use Rattle.queue.specs.Waiting.{Aggregate, Give, Nothing, One, Many, Queue, Tak
 use Rattle.delivery.specs.declared.cursor.Found.{Found}
 use Rattle.delivery.specs.declared.cursor.Found.the-variants.{Event, Packet, Tail, Done}
 use Rattle.delivery.specs.declared.cursor.Advanced.{Advanced}
-use Rattle.wire.specs.Memory.{part-within}
 use Rattle.queue.specs.Queue.{eventTaken, nextUnit, taken-note, taken-over, taken-nothing, taken-one, taken-many}
-use Rattle.delivery.specs.Cursor.{one, span, left, isEvent, goesOn, advancedOf, slotAdvanced, tailAdvanced, turnOf, turn-event}
-use Rattle.delivery.specs.Cursor.{turn-on, advanced-less, advanced-note, advanced-packet, advanced-slot, advanced-done}
-use Rattle.delivery.specs.Cursor.{slot-packet, slot-tail}
+use Rattle.delivery.specs.Cursor.{one, span, left, isEvent, goesOn, advancedOf, slotAdvanced, tailAdvanced, turnOf, turn-event, turn-on, advanced-less, advanced-note, advanced-packet, advanced-slot, advanced-done, slot-packet, slot-tail}
 use Rattle.intake.specs.Slot.{holding}
 use Rattle.state.specs.State.{State, withSlot}
 use Rattle.frames.specs.Slot.{shortBy}

@@ -20,8 +20,7 @@ closedValues s (Note n id) = s
 closedValues s (Unit g) = s
 closedValues s (Refused n) = ended s
 
--- by a definition's answer x: the call that a command makes; a command that is carried out; calling next; a command with what
--- next gives
+-- by a definition's answer x: the call that a command makes; a command that is carried out; calling next
 pub record Calls (before : List ℕ) (r : ℕ) (after q : List ℕ) (x : Called × List ℕ) : Type 0 where
   pub answer : (record { refusal = r; state = stateIn after }, q) ≡ x
   pub exact : Exact before after

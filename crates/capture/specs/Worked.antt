@@ -19,8 +19,7 @@ use Rattle.mmtp.specs.Flow.{flowOf, compressedOf, behind, compressedHeader}
 use Rattle.mmtp.specs.Header.{headerOf, plain, payloadStart, fixedBytes, extensionBytes, extensionLength, startOf as payloadAt}
 use Rattle.mmtp.specs.Watch.{lookupOf, firstFrom}
 use Rattle.mmtp.specs.Packet.{readingOf, headRead, lookedUp, bodyRead}
-use Rattle.mmtp.specs.Payload.{indicatorOf, fragmentTypeOf, mpuOf, signallingOf, parsedOf, counterFits, aggregationFits, unitsFit}
-use Rattle.mmtp.specs.Payload.{tested, payloadOf}
+use Rattle.mmtp.specs.Payload.{indicatorOf, fragmentTypeOf, mpuOf, signallingOf, parsedOf, counterFits, aggregationFits, unitsFit, tested, payloadOf}
 use Rattle.mmtp.specs.Unit.{fieldBytes, fieldsOf, singleFits, singleUnit, singleAt}
 use Rattle.reassembly.specs.Channel.{nextPsn, heard, gap, unheard}
 use Rattle.reassembly.specs.Join.{interrupted, begun, acted, joinOf}
@@ -37,8 +36,7 @@ use Rattle.lines.specs.Line.{field, placeText, carriedText, unitLine, idText, n
 use Rattle.capture.specs.Command.{letterOf, slotSize, sizeOf, whole, idsOf, configOf}
 use Rattle.capture.specs.Session.{freshSession}
 use Rattle.capture.specs.Waits.{queueWaits, cursorWaits, waitsBy}
-use Rattle.capture.specs.Capture.{callOf, afterCall, doneOf, eventLine, tallied, closed, drainedBy, drainedOf, textBy}
-use Rattle.capture.specs.Capture.{textOf, captureOf}
+use Rattle.capture.specs.Capture.{callOf, afterCall, doneOf, eventLine, tallied, closed, drainedBy, drainedOf, textBy, textOf, captureOf}
 
 abbrev repeated : ℕ → List ℕ → List ℕ
 repeated zero xs = []

@@ -62,8 +62,7 @@ use Rattle.capture_account.specs.Calls.{
 use Rattle.capture_account.specs.Places.{placedAt, slotNumber, placedBy}
 use Rattle.capture_account.specs.Claims.{configIn, Begins, Suffice, Accounts, CaptureAccounts}
 use Rattle.capture_account.proofs.Drains.{session, Settled, settle, idle-settled}
-use Rattle.capture_account.proofs.Steps.{commandCall, did-call, tallyAfter, slot-counted, frame-counted, call-queue, refusal-is}
-use Rattle.capture_account.proofs.Steps.{Steps, call-step}
+use Rattle.capture_account.proofs.Steps.{commandCall, did-call, tallyAfter, slot-counted, frame-counted, call-queue, refusal-is, Steps, call-step}
 use Rattle.receiver.proofs.Lengths.{GiveLies}
 
 shown-append : (a b : List Placed) → shownIn (a ++ b) ≡ shownIn a ++ shownIn b

@@ -19,13 +19,11 @@ use Rattle.capture.specs.Command.{letterOf, size-by}
 use Rattle.broadcast.specs.Account.{account}
 use Rattle.broadcast.specs.Drains.{strip}
 use Rattle.broadcast.specs.Calls.{Call, frame, lost-frame, slot, Todo}
-use Rattle.broadcast.specs.Frames.{Frame, Whole, Damage, none, slotCall, slotAt, ifOwn}
-use Rattle.broadcast.specs.Frames.{slotsTodo, frameTodo, reading, arriving, slotsArrive, layoutIn, frameArrives, arrivals}
+use Rattle.broadcast.specs.Frames.{Frame, Whole, Damage, none, slotCall, slotAt, ifOwn, slotsTodo, frameTodo, reading, arriving, slotsArrive, layoutIn, frameArrives, arrivals}
 use Rattle.broadcast.proofs.SlotCalls.{SlotsFit}
 use Rattle.broadcast.proofs.Reading.{FramesFit}
 use Rattle.capture_account.specs.Events.{meaningOf, shownIn}
-use Rattle.capture_account.specs.Calls.{commandCalls, refusalAt, layoutAfter, slotAfter, framesAfter}
-use Rattle.capture_account.specs.Calls.{arrivalBy, arrivalsBy, refusalsBy}
+use Rattle.capture_account.specs.Calls.{commandCalls, refusalAt, layoutAfter, slotAfter, framesAfter, arrivalBy, arrivalsBy, refusalsBy}
 use Rattle.capture_account.specs.Written.{callsBytes, CanWriteAll, callsIn, framesCalls, CanWriteFrames, captureBytes}
 use Rattle.capture_account.specs.Claims.{configIn, Begins, Suffice}
 use Rattle.capture_account.proofs.Accounts.{capture-accounts}

@@ -15,8 +15,7 @@ use Rattle.mmtp.specs.Flow.{flowOf, compressedOf, behind, compressedHeader}
 use Rattle.mmtp.specs.Header.{headerOf, plain, payloadStart, fixedBytes, extensionBytes, extensionLength}
 use Rattle.mmtp.specs.Watch.{lookupOf, firstFrom}
 use Rattle.mmtp.specs.Packet.{readingOf, headRead, lookedUp, bodyRead}
-use Rattle.mmtp.specs.Payload.{indicatorOf, fragmentTypeOf, mpuOf, signallingOf, parsedOf, counterFits, aggregationFits, unitsFit}
-use Rattle.mmtp.specs.Payload.{tested, payloadOf, piecesOf}
+use Rattle.mmtp.specs.Payload.{indicatorOf, fragmentTypeOf, mpuOf, signallingOf, parsedOf, counterFits, aggregationFits, unitsFit, tested, payloadOf, piecesOf}
 use Rattle.mmtp.specs.Unit.{fieldBytes, fieldsOf, pieceOf, singleFits}
 use Rattle.reassembly.specs.Unit.{agrees}
 use Rattle.reassembly.specs.Channel.{nextPsn, heard, gap, unheard}

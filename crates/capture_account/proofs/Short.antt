@@ -12,8 +12,7 @@ use Rattle.reassembly.specs.declared.config.Config.{Config}
 use Rattle.wire.specs.Choice.{neither}
 use Rattle.state.specs.State.{Called, State, withFrame, refused as refusedWith, accepted as acceptedAs}
 use Rattle.state.specs.Start.{freshState}
-use Rattle.frames.specs.Frame.{frameBusy, frameOf, lossOf, lostFrameOf, frame-short, frame-busy, frame-refused, frame-accepted}
-use Rattle.frames.specs.Frame.{lost-frame-busy, lost-frame-accepted}
+use Rattle.frames.specs.Frame.{frameBusy, frameOf, lossOf, lostFrameOf, frame-short, frame-busy, frame-refused, frame-accepted, lost-frame-busy, lost-frame-accepted}
 use Rattle.frames.specs.Slot.{shortBy, slotRefusal, slot-refused, lost-refused}
 use Rattle.receiver.specs.Next.{next-short}
 use Rattle.capture.specs.declared.command.Letter.{Letter}
@@ -28,15 +27,11 @@ use Rattle.capture.proofs.Texts.{whole-size}
 use Rattle.broadcast.proofs.Demand3.{start-accepted}
 use Rattle.capture_account.specs.Events.{Meaning, Waited, waitedBy, waitedOf, meaningBy, meaningOf}
 use Rattle.broadcast.specs.Calls.{Call, frame, lost-frame, slot, lost-slot}
-use Rattle.capture_account.specs.Calls.{callThen, commandCallsBy, commandCalls, slotAfter}
-use Rattle.capture_account.specs.Calls.{shortAt, shortRefusalsBy, shortFramesBy}
+use Rattle.capture_account.specs.Calls.{callThen, commandCallsBy, commandCalls, slotAfter, shortAt, shortRefusalsBy, shortFramesBy}
 use Rattle.capture_account.specs.Claims.{configIn, Begins, Suffice, NoneShown, CaptureShort}
 use Rattle.capture_account.proofs.Drains.{session}
 use Rattle.capture_account.proofs.Steps.{commandCall, tallyAfter}
-use Rattle.capture_account.proofs.Accounts.{front-letter, done-unfit, done-refused, done-accepted, after-reads}
-use Rattle.capture_account.proofs.Accounts.{behind-fits, behind-unfit}
-use Rattle.capture_account.proofs.Accounts.{calls-none, calls-some, onward, onward-stops, idle-waited, mean-step, start-means}
-use Rattle.capture_account.proofs.Accounts.{started-session}
+use Rattle.capture_account.proofs.Accounts.{front-letter, done-unfit, done-refused, done-accepted, after-reads, behind-fits, behind-unfit, calls-none, calls-some, onward, onward-stops, idle-waited, mean-step, start-means, started-session}
 
 -- no event, these refusals, and so many frames
 abbrev Says : Meaning → List ℕ → ℕ → Type 0

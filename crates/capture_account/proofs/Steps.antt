@@ -14,8 +14,7 @@ use Rattle.tlv.specs.Run.{Arrival, State as Slot-state, Stepped, lost, step, ru
 use Rattle.reassembly.specs.declared.config.Config.{Config}
 use Rattle.reassembly.specs.Run.{Lane}
 use Rattle.state.specs.State.{Called, State, Frame as ReceiverFrame, withFrame, refused as refusedWith, accepted as acceptedAs}
-use Rattle.frames.specs.Slot.{counted, wrongLength, slotRefusal, slotOf, lostSlotOf, slotTaken, lossTaken}
-use Rattle.frames.specs.Slot.{dueLength, dueOwn, duePointers, shortBy, long-enough}
+use Rattle.frames.specs.Slot.{counted, wrongLength, slotRefusal, slotOf, lostSlotOf, slotTaken, lossTaken, dueLength, dueOwn, duePointers, shortBy, long-enough}
 use Rattle.frames.specs.Frame.{frameBusy, frameOf, lossOf, lostFrameOf}
 use Rattle.receiver.specs.Next.{next-idle}
 use Rattle.capture.specs.declared.command.Letter.{Letter}

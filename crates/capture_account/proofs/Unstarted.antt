@@ -17,8 +17,7 @@ use Rattle.capture.specs.Capture.{fits, callOf}
 use Rattle.capture.proofs.Texts.{whole-size, size-whole}
 use Rattle.capture_account.specs.Events.{meaningBy, meaningOf}
 use Rattle.capture_account.specs.Claims.{configIn, HasC, Unstarted, CaptureWithoutC, CaptureRefusedC}
-use Rattle.capture_account.proofs.Accounts.{front-letter, done-unfit, done-refused, onward}
-use Rattle.capture_account.proofs.Accounts.{fresh-before, fresh-waited, fresh-drained, fresh-means}
+use Rattle.capture_account.proofs.Accounts.{front-letter, done-unfit, done-refused, onward, fresh-before, fresh-waited, fresh-drained, fresh-means}
 
 -- the first command: none is whole, it is not C, or start refuses it
 module _ (f : ℕ) (p c b : List ℕ) where

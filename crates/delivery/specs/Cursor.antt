@@ -7,7 +7,7 @@ use lib.ListN.{length, drop, length-drop}
 use borrow.Author.Tests.{eq-eqb, ne-eqb, eqb-true, eqb-false}
 use lib.Dec.{eqb}
 use Rattle.wire.specs.Choice.{chosen, chosen-not}
-use Rattle.wire.specs.Memory.{partOf}
+use Rattle.wire.specs.Memory.{partOf, part-length}
 use Rattle.tlv.specs.declared.packet.Next.{Next}
 use Rattle.tlv.specs.declared.packet.Next.the-variants.{Packet as PacketTo, Tail as TailAt}
 use Rattle.tlv.specs.declared.note.SlotNote.the-variants.{TooLong}
@@ -25,7 +25,6 @@ use Rattle.queue.specs.Queue.{eventTaken}
 use native.Mathlib.Omega.{arith}
 use Rattle.tlv.specs.Cuts.{complete-fits}
 use Rattle.mmtp.specs.Cases.{chose}
-use Rattle.wire.specs.Memory.{part-length}
 
 -- "a tail is held, but one whose known total is above 16,384 gives 43"
 unfoldable pub tailAdvanced : List ℕ → ℕ → ℕ → Advanced

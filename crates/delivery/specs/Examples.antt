@@ -14,8 +14,7 @@ use Rattle.reassembly.specs.Channel.{nextPsn, heard, gap, unheard}
 use Rattle.reassembly.specs.Join.{interrupted, begun, counterFollows, grown, extended, followed, acted, joinOf}
 use Rattle.delivery.specs.declared.packet.Arrived.{Arrived}
 use Rattle.delivery.specs.declared.packet.Arrived.the-variants.{Good}
-use Rattle.delivery.specs.Packet.{JoinedPacket}
-use Rattle.delivery.specs.Packet.{firstUnit, collected, giveOf, joinedOf, receivedOf}
+use Rattle.delivery.specs.Packet.{JoinedPacket, firstUnit, collected, giveOf, joinedOf, receivedOf}
 use Rattle.queue.specs.Queue.{empty}
 
 -- a signalling piece that is all of packet memory, of the packet_id at place 1

@@ -18,14 +18,10 @@ use Rattle.capture.specs.declared.session.Phase.the-variants.{Before, Reading, 
 use Rattle.capture.specs.Session.{Session, busy, isReading, isEnded, inPhase, withState}
 use Rattle.lines.specs.Line.{longestLine, refusedLine, field-21}
 use Rattle.lines.specs.Text.{wrote, wrote-none, wrote-end, length-wrote, wrote-append}
-use Rattle.capture.specs.Command.{longestCommand, letterOf, sizeOf, whole, size-by, slot-size-within, size-kept, size-grows, size-most}
-use Rattle.capture.specs.Command.{size-none}
+use Rattle.capture.specs.Command.{longestCommand, letterOf, sizeOf, whole, size-by, slot-size-within, size-kept, size-grows, size-most, size-none}
 use Rattle.capture.specs.Capture.{Done, fits, callOf, afterCall, settled, doneOf, lastLine, textOf}
 use Rattle.capture.specs.Steps.{roomy, actedOf, pouredOf}
-use Rattle.feeding.specs.Feed.{World, heldOf, wantedOf, keptOf, Keeps, wholeSize, gatheredOf, bytesTaken, sourceOf, ranOf}
-use Rattle.feeding.specs.Feed.{goesBy, goes, turnOf, fedBy, fedFrom, keeps-all, keeps-none, wanted-first, wanted-rest}
-use Rattle.feeding.specs.Feed.{kept-all, kept-none, ran-part, ran-whole, goes-read, whole-front, taken-whole, taken-held}
-use Rattle.feeding.specs.Feed.{taken-part, source-block, source-gathered, turn-by}
+use Rattle.feeding.specs.Feed.{World, heldOf, wantedOf, keptOf, Keeps, wholeSize, gatheredOf, bytesTaken, sourceOf, ranOf, goesBy, goes, turnOf, fedBy, fedFrom, keeps-all, keeps-none, wanted-first, wanted-rest, kept-all, kept-none, ran-part, ran-whole, goes-read, whole-front, taken-whole, taken-held, taken-part, source-block, source-gathered, turn-by}
 use Rattle.feeding.specs.Claims.{Right, ahead, Feeds, FeedClaim}
 use Rattle.capture.specs.Drains.{drain-idle}
 use Rattle.capture.proofs.Pours.{pour-claim}

@@ -16,8 +16,7 @@ use Rattle.lines.specs.Line.{longestLine, isLine}
 use Rattle.capture.specs.Waits.{waits, next-falls}
 use Rattle.capture.specs.Capture.{eventLine, tallied}
 use Rattle.capture.specs.Steps.{Poured, pourBy, roomy, pouredBy, pouredOf, pour-step}
-use Rattle.feeding.specs.Feed.{World, keptOf, goesBy, goes, turnOf, fedBy, fedFrom, entered}
-use Rattle.feeding.specs.Feed.{Wants, kept-wants, turn-reads, fed-turn, fed-long}
+use Rattle.feeding.specs.Feed.{World, keptOf, goesBy, goes, turnOf, fedBy, fedFrom, entered, Wants, kept-wants, turn-reads, fed-turn, fed-long}
 use Rattle.feeding.specs.Progress.{FeedGetsOn, Less, PourGetsOn}
 use Rattle.capture.proofs.Pours.{closed-idle}
 

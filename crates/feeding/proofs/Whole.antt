@@ -17,8 +17,7 @@ use Rattle.capture.specs.Command.{longestCommand, sizeOf}
 use Rattle.capture.specs.Waits.{waits, next-falls}
 use Rattle.capture.specs.Capture.{eventLine, tallied, lastLine, textOf, captureOf}
 use Rattle.capture.specs.Steps.{Poured, pourBy, roomy, actedOf, pouredBy, pouredOf}
-use Rattle.feeding.specs.Feed.{World, Wants, Ran, ranOf, goesBy, goes, turnOf, turn-wants, turn-reads, goes-read, fedBy, fedFrom}
-use Rattle.feeding.specs.Feed.{entered, leftBy, fed-long, keeps-none}
+use Rattle.feeding.specs.Feed.{World, Wants, Ran, ranOf, goesBy, goes, turnOf, turn-wants, turn-reads, goes-read, fedBy, fedFrom, entered, leftBy, fed-long, keeps-none}
 use Rattle.feeding.specs.Claims.{ahead}
 use Rattle.feeding.specs.Plays.{Player, first, fed, afterFeed, WholeClaim}
 use Rattle.capture.proofs.Pours.{closed-idle}

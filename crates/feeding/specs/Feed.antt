@@ -9,9 +9,8 @@ use borrow.Author.Tests.{lt-ltb, le-ltb, eq-eqb, ne-eqb, ltb-true, ltb-false, eq
 use lib.ListN.{length, take, drop, length-take, length-drop, take-append-drop}
 use lib.Seq.{length-take-le}
 use lib.Dec.{eqb, ltb}
-use Rattle.wire.specs.Memory.{pasted, length-pasted}
+use Rattle.wire.specs.Memory.{pasted, length-pasted, pasted-take}
 use Rattle.wire.specs.Choice.{by-test}
-use Rattle.wire.specs.Memory.{pasted-take}
 use Rattle.capture.specs.Session.{Progress, Session, busy, isEnded}
 use Rattle.feeding.specs.Fed.{Fed}
 use Rattle.feeding.specs.declared.feed.Turn.{Turn}

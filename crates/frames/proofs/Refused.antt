@@ -11,7 +11,7 @@ use Rattle.tmcc.specs.declared.layout.Pointers.{Pointers}
 use Rattle.tmcc.specs.Block.{decodeOf}
 use Rattle.tmcc.proofs.Laws.{refusal-number}
 use Rattle.state.specs.State.{State, refused}
-use Rattle.state.specs.Refused.{IsRefused, Kept, Row, Keeps}
+use Rattle.state.specs.Refused.{IsRefused, Kept, OneOf, KeepsState}
 use Rattle.frames.specs.Frame.{frameBusy, frameOf, lostFrameOf}
 use Rattle.frames.specs.Slot.{
   SlotOut,
@@ -26,33 +26,33 @@ use Rattle.frames.specs.Slot.{
   lostSlotOf,
 }
 
-slot-row : (st : State) (packet collecting : ℕ) → Row 20 22 (slotRefusal st packet collecting)
+slot-row : (st : State) (packet collecting : ℕ) → OneOf 20 22 (slotRefusal st packet collecting)
 unfolding slotRefusal
 slot-row st packet collecting =
-    either (Row 20 22) (leb 120 (st .frame .at)) (λ z. (omega arith, omega arith))
-    (either (Row 20 22) (st .owed) (λ z. (omega arith, omega arith))
-    (either (Row 20 22) (shortBy (st .config) packet collecting) (λ z. (omega arith, omega arith)) (λ z. absurd (z refl))))
+    either (OneOf 20 22) (leb 120 (st .frame .at)) (λ z. (omega arith, omega arith))
+    (either (OneOf 20 22) (st .owed) (λ z. (omega arith, omega arith))
+    (either (OneOf 20 22) (shortBy (st .config) packet collecting) (λ z. (omega arith, omega arith)) (λ z. absurd (z refl))))
 
 module _ (st : State) where
-  pub frame-kept : (b : List ℕ) → Keeps 10 14 st (frameOf st b)
+  pub frame-kept : (b : List ℕ) → KeepsState 10 14 st (frameOf st b)
   unfolding frameOf
   frame-kept b =
       let d = decodeOf b (st .config .stream) in
-      either (Keeps 10 14 st) (eqb (length b) 1178)
-      (either (Keeps 10 14 st) (frameBusy st) (λ z. record { number = (omega arith, omega arith); state = refl })
-      (either (Keeps 10 14 st) (eqb (d .refusal) 0) (λ z. absurd (z refl))
+      either (KeepsState 10 14 st) (eqb (length b) 1178)
+      (either (KeepsState 10 14 st) (frameBusy st) (λ z. record { number = (omega arith, omega arith); state = refl })
+      (either (KeepsState 10 14 st) (eqb (d .refusal) 0) (λ z. absurd (z refl))
       (λ z. record { number = refusal-number b (st .config .stream) z; state = refl })))
       (λ z. record { number = (omega arith, omega arith); state = refl })
 
-  pub lost-frame-kept : Keeps 11 11 st (lostFrameOf st)
+  pub lost-frame-kept : KeepsState 11 11 st (lostFrameOf st)
   unfolding lostFrameOf
   lost-frame-kept =
-      either (Keeps 11 11 st) (frameBusy st) (λ z. record { number = (omega arith, omega arith); state = refl }) (λ z. absurd (z refl))
+      either (KeepsState 11 11 st) (frameBusy st) (λ z. record { number = (omega arith, omega arith); state = refl }) (λ z. absurd (z refl))
 
-  pub lost-slot-kept : (packet collecting : ℕ) → Keeps 20 22 st (lostSlotOf st packet collecting)
+  pub lost-slot-kept : (packet collecting : ℕ) → KeepsState 20 22 st (lostSlotOf st packet collecting)
   unfolding lostSlotOf
   lost-slot-kept packet collecting =
-      either (Keeps 20 22 st) (eqb (slotRefusal st packet collecting) 0) (λ z. absurd (z refl))
+      either (KeepsState 20 22 st) (eqb (slotRefusal st packet collecting) 0) (λ z. absurd (z refl))
       (λ z. record { number = slot-row st packet collecting z; state = refl })
 
   -- slot's answer, with packet memory

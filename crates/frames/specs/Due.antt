@@ -1,4 +1,4 @@
--- The slot that is due, by the words of the state.
+-- The slot that is due, by the words of the state; and a slot that is counted and taken.
 use Prim.Native.Nat.{ℕ, _<_}
 use mathlib.Core.Path.{_≡_, sym, _∙_, ap}
 use mathlib.Core.Bool.{Bool, true, false}
@@ -10,13 +10,11 @@ use Rattle.intake.specs.declared.held.Held.{Held}
 use Rattle.intake.specs.declared.held.Intake.{Intake}
 use Rattle.intake.specs.Slot.{IntakeOut, intakeOf}
 use Rattle.words.specs.Cursor.{readHeld}
-use Rattle.state.specs.State.{State, withIntake}
-use Rattle.state.specs.State.{accepted}
+use Rattle.state.specs.State.{State, withIntake, accepted}
 use Rattle.state.specs.Words.{pointersIn, lengthIn, ownIn, layoutIn, stateIn}
 use Rattle.frames.specs.Slot.{slotRefusal, wrongLength, dueLength, dueOwn, duePointers, counted, slotOf, slot-own}
 use Rattle.state.specs.Lent.{held-in}
 
--- the slot that is due, by its words
 module _ (t : List ℕ) (h : stateIn t .frame .at < 120) where
   pub due-first : getD t 20 0 < 120
   unfolding stateIn

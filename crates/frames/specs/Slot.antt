@@ -12,8 +12,7 @@ use lib.Dec.{eqb, ltb, leb}
 use Rattle.tmcc.specs.declared.layout.Pointers.{Pointers}
 use Rattle.reassembly.specs.declared.config.Config.{Config}
 use Rattle.state.specs.State.{State, Called, withFrame, withOwed, withIntake, refused, accepted}
-use Rattle.state.specs.Tests.{passed}
-use Rattle.wire.specs.Choice.{neither}
+use Rattle.wire.specs.Choice.{passed, neither}
 use Rattle.intake.specs.Slot.{packetMemory, intakeOf}
 use Rattle.frames.specs.Frame.{lossOf}
 

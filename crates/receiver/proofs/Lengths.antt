@@ -9,7 +9,7 @@ use lib.ListN.{length, getD, drop, length-drop}
 use lib.Seq.{length-take-le}
 use borrow.Author.Tests.{eqb-true, eqb-false}
 use Rattle.wire.specs.Choice.{either}
-use Rattle.wire.specs.Memory.{partOf, part-inside}
+use Rattle.wire.specs.Memory.{partOf, part-inside, part-within, part-length}
 use Rattle.mmtp.specs.declared.unit.DataUnit.{DataUnit}
 use Rattle.mmtp.specs.declared.unit.Step.{Step}
 use Rattle.mmtp.specs.declared.unit.Step.the-variants.{Unit as UnitAt, Malformed, End}
@@ -30,9 +30,7 @@ use Rattle.delivery.specs.declared.cursor.Advanced.{Advanced}
 use Rattle.queue.specs.Located.{wholeGiven, unitLen}
 use Rattle.delivery.specs.Packet.{wholesOf, giveOf, unitIn, bytesAt, baseOf, stepOf, pieceFrom, joinedOf, arrivedAt}
 use Rattle.mmtp.specs.Unit.{Inside, unit-inside}
-use Rattle.delivery.specs.Within.{first-inside, Below, joined-below}
-use Rattle.wire.specs.Memory.{part-within, part-length}
-use Rattle.delivery.specs.Within.{arrived-fits, length-joined}
+use Rattle.delivery.specs.Within.{first-inside, Below, joined-below, arrived-fits, length-joined}
 use Rattle.queue.specs.Queue.{eventTaken, nextUnit, taken-note, taken-over, taken-nothing, taken-one, taken-many}
 use Rattle.tlv.specs.declared.packet.Next.{Next}
 use Rattle.tlv.specs.declared.packet.Next.the-variants.{Packet as PacketTo, Tail as TailAt}
@@ -43,8 +41,7 @@ use Rattle.intake.specs.Slot.{holding}
 use Rattle.state.specs.State.{State, withSlot}
 use Rattle.frames.specs.Slot.{shortBy}
 use Rattle.receiver.specs.Show.{showOf}
-use Rattle.receiver.specs.Next.{NextOut, past, onwards, arrivedBy, packetOf, readOn, readAll, nextOf, next-short, next-idle}
-use Rattle.receiver.specs.Next.{next-reads, short-room}
+use Rattle.receiver.specs.Next.{NextOut, past, onwards, arrivedBy, packetOf, readOn, readAll, nextOf, next-short, next-idle, next-reads, short-room}
 use Rattle.receiver.specs.ReadOn.{packet-kept, length-packet, Ample}
 
 -- a part that lies in its memory, or is empty

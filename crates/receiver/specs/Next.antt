@@ -18,11 +18,10 @@ use Rattle.delivery.specs.declared.packet.Arrived.the-variants.{Silent, Noted, 
 use Rattle.mmtp.specs.declared.note.PacketNote.{PacketNote}
 use Rattle.delivery.specs.declared.cursor.Found.{Found}
 use Rattle.delivery.specs.declared.cursor.Found.the-variants.{Event, Packet, Tail, Done}
-use Rattle.delivery.specs.Cursor.{Turn}
+use Rattle.delivery.specs.Cursor.{Turn, turnOf, left}
 use Rattle.intake.specs.Slot.{packetMemory, holding}
 use Rattle.frames.specs.Slot.{shortBy}
 use Rattle.delivery.specs.Packet.{noteQueue, arrivedAt, joinedOf}
-use Rattle.delivery.specs.Cursor.{turnOf, left}
 
 abbrev pub NextOut : Type 0
 NextOut = Answer × List ℕ

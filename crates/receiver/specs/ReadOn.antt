@@ -12,12 +12,11 @@ use Rattle.queue.specs.declared.event.Event.the-variants.{Nothing}
 use Rattle.state.specs.State.{State, withOwed, withSlot, withQueue, withChannels}
 use Rattle.delivery.specs.declared.packet.Arrived.{Arrived}
 use Rattle.delivery.specs.declared.packet.Arrived.the-variants.{Silent, Noted, Good}
-use Rattle.delivery.specs.Packet.{JoinedPacket}
-use Rattle.delivery.specs.Cursor.{Turn}
+use Rattle.delivery.specs.Packet.{JoinedPacket, arrivedAt, placeOf, receivedOf}
+use Rattle.delivery.specs.Cursor.{Turn, turnOf, turn-less, left}
 use Rattle.delivery.specs.declared.cursor.Found.{Found}
 use Rattle.delivery.specs.declared.cursor.Found.the-variants.{Event, Packet, Tail, Done}
 use Rattle.intake.specs.Slot.{holding}
-use Rattle.delivery.specs.Packet.{arrivedAt, placeOf, receivedOf}
 use Rattle.delivery.specs.Within.{arrived-fits, length-received}
 use Rattle.frames.specs.Slot.{shortBy}
 use Rattle.receiver.specs.Next.{
@@ -35,7 +34,6 @@ use Rattle.receiver.specs.Next.{
   next-reads,
   short-room,
 }
-use Rattle.delivery.specs.Cursor.{turnOf, turn-less, left}
 
 -- what a packet leaves as it was
 pub record Kept (st after : State) : Type 0 where

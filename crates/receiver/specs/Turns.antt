@@ -16,19 +16,16 @@ use Rattle.queue.specs.declared.event.Event.{Event as AnEvent}
 use Rattle.queue.specs.declared.event.Event.the-variants.{Nothing}
 use Rattle.delivery.specs.declared.cursor.Found.{Found}
 use Rattle.delivery.specs.declared.cursor.Found.the-variants.{Event, Packet, Tail, Done}
-use Rattle.delivery.specs.Packet.{JoinedPacket}
-use Rattle.delivery.specs.Cursor.{Turn}
-use Rattle.delivery.specs.Packet.{arrivedAt, placeOf, receivedOf}
+use Rattle.delivery.specs.Packet.{JoinedPacket, arrivedAt, placeOf, receivedOf}
+use Rattle.delivery.specs.Cursor.{Turn, turnOf, advancedOf, isEvent, turn-event, turn-on, goesOn, left, turn-less}
 use Rattle.queue.specs.Queue.{eventTaken}
-use Rattle.delivery.specs.Cursor.{turnOf, advancedOf, isEvent, turn-event, turn-on, goesOn, left, turn-less}
 use Rattle.queue.specs.Words.{readQueue, Takes}
 use Rattle.delivery.specs.Words.{channelPlace, Receives}
 use Rattle.state.specs.State.{State, withOwed, withSlot, withQueue, withChannels}
 use Rattle.state.specs.Words.{stateIn, Moves}
 use Rattle.receiver.specs.Next.{answered, past, readAll}
 use Rattle.receiver.specs.ReadOn.{read-event, read-received, read-tail, read-done}
-use Rattle.state.specs.Lent.{kept-words, state-held, state-cursor, state-queue, state-owed, state-packet, packet-comes}
-use Rattle.state.specs.Lent.{cursor-in, queue-in}
+use Rattle.state.specs.Lent.{kept-words, state-held, state-cursor, state-queue, state-owed, state-packet, packet-comes, cursor-in, queue-in}
 
 abbrev pub turnIn : List ℕ → List ℕ → Turn
 turnIn t p = turnOf (stateIn t .queue) (stateIn t .cursor) p

@@ -21,16 +21,14 @@ use Rattle.reassembly.specs.Channel.{unheard}
 use Rattle.words.specs.Channel.{readConfig, ConfigStored, config-same, config-put, readChannel, channel-same, channel-zero}
 use Rattle.intake.specs.declared.held.Held.{Held}
 use Rattle.intake.specs.declared.held.Cursor.{Cursor}
-use Rattle.words.specs.Cursor.{readHeld, heldWords, held-same, held-put, held-zero}
-use Rattle.words.specs.Cursor.{readCursor, cursor-same, cursor-zero}
+use Rattle.words.specs.Cursor.{readHeld, heldWords, held-same, held-put, held-zero, readCursor, cursor-same, cursor-zero}
 use Rattle.queue.specs.Waiting.{Queue}
 use Rattle.delivery.specs.Packet.{arrivedAt, placeOf, receivedOf}
 use Rattle.delivery.specs.Within.{arrived-below}
 use Rattle.queue.specs.Words.{readQueue, queue-same, queue-zero}
 use Rattle.delivery.specs.Words.{channelPlace, Receives}
 use Rattle.state.specs.State.{withFrame, withOwed, withSlot, withQueue, withChannels}
-use Rattle.state.specs.Words.{stateWords, pointersIn, lengthIn, ownIn, layoutIn, channelsIn, stateIn}
-use Rattle.state.specs.Words.{Cleared, SlotPut, LayoutPut, slotWords, CleanSlot}
+use Rattle.state.specs.Words.{stateWords, pointersIn, lengthIn, ownIn, layoutIn, channelsIn, stateIn, Cleared, SlotPut, LayoutPut, slotWords, CleanSlot}
 use Rattle.state.specs.Start.{freshState}
 
 -- words that are as they were in `n` places from `k` on

@@ -1,5 +1,4 @@
 -- The state as a record, its words, and start.
-pub mod Tests
 pub mod State
 pub mod Refused
 pub mod Words

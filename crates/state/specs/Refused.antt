@@ -12,9 +12,9 @@ pub record Kept (first last : ℕ) (st : State) (r : Called) : Type 0 where
   pub state : r .state ≡ st
 
 -- 0, or a number from `first` to `last`
-abbrev pub Row : ℕ → ℕ → ℕ → Type 0
-Row first last n = (n ≡ 0 → ⊥) → (first ≤ n) × (n ≤ last)
+abbrev pub OneOf : ℕ → ℕ → ℕ → Type 0
+OneOf first last n = (n ≡ 0 → ⊥) → (first ≤ n) × (n ≤ last)
 
 -- a call that answers so
-abbrev pub Keeps : ℕ → ℕ → State → Called → Type 0
-Keeps first last st r = IsRefused r → Kept first last st r
+abbrev pub KeepsState : ℕ → ℕ → State → Called → Type 0
+KeepsState first last st r = IsRefused r → Kept first last st r

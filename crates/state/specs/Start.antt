@@ -16,8 +16,7 @@ use Rattle.reassembly.specs.declared.config.Config.{Config}
 use Rattle.reassembly.specs.Channel.{unheard}
 use Rattle.tmcc.specs.Layout.{blankLayout}
 use Rattle.state.specs.State.{State, Called, refused, accepted}
-use Rattle.state.specs.Tests.{passed}
-use Rattle.wire.specs.Choice.{neither}
+use Rattle.wire.specs.Choice.{passed, neither}
 use Rattle.intake.specs.Slot.{searching, noted}
 use Rattle.queue.specs.Queue.{empty}
 

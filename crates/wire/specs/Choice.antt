@@ -1,4 +1,5 @@
 -- A choice by a test.
+use Prim.Native.Nat.{ℕ}
 use mathlib.Core.Path.{_≡_, refl}
 use mathlib.Core.Bool.{Bool, true, false, cond, _||_}
 
@@ -24,3 +25,8 @@ module _ {A : Type 0} where
 pub neither : (a b : Bool) → a || b ≡ false → (a ≡ false) × (b ≡ false)
 neither true b e = (cc, cc)
 neither false b e = (refl, e)
+
+-- a test that picks a number other than 0 was not met
+pub passed : (t : Bool) (n x : ℕ) → (n ≡ 0 → ⊥) → cond t n x ≡ 0 → (t ≡ false) × (x ≡ 0)
+passed true n x z e = absurd (z e)
+passed false n x z e = (refl, e)

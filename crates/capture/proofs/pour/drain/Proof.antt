@@ -13,8 +13,7 @@ use Rattle.capture.specs.Words.{closed-in}
 use Rattle.capture.specs.declared.session.Session.{Session}
 use Rattle.capture.specs.declared.session.Tally.{Tally}
 use Rattle.capture.specs.Waits.{waits}
-use Rattle.capture.specs.Steps.{roomy, Drains, pouredOf, pour-line, pour-last, pour-full}
-use Rattle.capture.specs.Steps.{drains-config, drains-paid, drains-on, drains-falls}
+use Rattle.capture.specs.Steps.{roomy, Drains, pouredOf, pour-line, pour-last, pour-full, drains-config, drains-paid, drains-on, drains-falls}
 use Rattle.state.specs.Clean.{exact-none, exact-on}
 use Rattle.capture.proofs.pour.drain.Statement.{statement}
 use Rattle.capture.proofs.pour.drain.Tie as tie

@@ -2,10 +2,9 @@
 use lib.ListN.{length}
 use Prim.Native.Nat.{_<_, _≤_, _-_}
 use native.Mathlib.Omega.{arith}
-use Rattle.wire.specs.Memory.{part-within}
+use Rattle.wire.specs.Memory.{part-within, partOf, slice-rest}
 use Rattle.delivery.specs.Packet.{arrived-silent, arrived-noted, arrived-mmtp}
 use Rattle.mmtp.specs.Flow.{flowOf, mmtp-place}
-use Rattle.wire.specs.Memory.{partOf, slice-rest}
 use mathlib.Core.Path.{_≡_, sym, _∙_}
 use borrow.Author.Needs.{needs}
 use Rattle.delivery.proofs.packet.arrive.Statement.{statement}

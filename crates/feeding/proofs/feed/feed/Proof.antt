@@ -11,8 +11,7 @@ use Rattle.lines.specs.Line.{longestLine}
 use Rattle.state.specs.Words.{stateWords, Exact}
 use Rattle.capture.specs.Command.{longestCommand}
 use Rattle.capture.specs.Session.{Session, sessionIn}
-use Rattle.feeding.specs.Feed.{World, Keeps, goesBy, goes-room, goes-read, taken-by, source-some, turn-by}
-use Rattle.feeding.specs.Feed.{fedFrom, fed-turn, fed-stops, fed-short, fed-long}
+use Rattle.feeding.specs.Feed.{World, Keeps, goesBy, goes-room, goes-read, taken-by, source-some, turn-by, fedFrom, fed-turn, fed-stops, fed-short, fed-long}
 use Rattle.state.specs.Clean.{exact-none, exact-on}
 use Rattle.feeding.proofs.feed.feed.Statement.{statement}
 use Rattle.feeding.proofs.feed.feed.Tie as tie

@@ -7,8 +7,7 @@ use lib.ListN.{length}
 use borrow.Author.Tests.{not-true, not-false}
 use Rattle.state.specs.Leaves.{sets-on, leaves-short, leaves-refused, leaves-accepted}
 use Rattle.frames.specs.Due.{due-first, due-wrong, due-own, due-pointers, slot-settled}
-use Rattle.frames.specs.Slot.{slotRefusal, dueLength, wrongLength, Ready, ready, right-length}
-use Rattle.frames.specs.Slot.{slot-refused, slot-wrong-length, slot-not-own}
+use Rattle.frames.specs.Slot.{slotRefusal, dueLength, wrongLength, Ready, ready, right-length, slot-refused, slot-wrong-length, slot-not-own}
 use Rattle.state.specs.Words.{stateWords, stateIn}
 use Rattle.state.specs.State.{State, withIntake}
 use borrow.Author.Needs.{needs}

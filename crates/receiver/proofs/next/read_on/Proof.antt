@@ -6,8 +6,7 @@ use native.Mathlib.Omega.{arith}
 use lib.ListN.{length, length-set}
 use Rattle.delivery.specs.declared.cursor.Found.{Found}
 use Rattle.delivery.specs.Cursor.{left}
-use Rattle.receiver.specs.Turns.{Turned, turned-event, turned-on, turned-less, turned-config}
-use Rattle.receiver.specs.Turns.{reads-event, reads-packet, reads-tail, reads-done}
+use Rattle.receiver.specs.Turns.{Turned, turned-event, turned-on, turned-less, turned-config, reads-event, reads-packet, reads-tail, reads-done}
 use Rattle.state.specs.Lent.{state-held, state-packet, placed-low}
 use Rattle.state.specs.Clean.{exact-none, exact-on, exact-held, exact-queue, exact-owed, exact-packet}
 use Rattle.receiver.specs.Next.{readAll}
