@@ -38,6 +38,7 @@ extern "C" {
 #define IXOHUEMIL_FRAME_SLOTS 120         /* slots of a frame */
 #define IXOHUEMIL_MOST_SLOT_BYTES 5049    /* the longest slot */
 #define IXOHUEMIL_MOST_PIECE_BYTES 1400   /* the packer's piece size m */
+#define IXOHUEMIL_MOST_PIECES 65535       /* pieces of a unit that the packer takes */
 #define IXOHUEMIL_CAPTURE_COLLECTING 65536 /* collecting memory of tlv_capture */
 #define IXOHUEMIL_MOST_LINE_BYTES 152     /* room that ixohuemil_text wants for a line */
 #define IXOHUEMIL_STACK_BYTES 8192        /* stack of a call */
@@ -65,7 +66,7 @@ enum {
     /* pack */
     IXOHUEMIL_REFUSED_PIECE_SIZE = 70,     /* the piece size m is not 1 to 1,400 */
     IXOHUEMIL_REFUSED_KIND = 71,           /* the kind is above 4 */
-    IXOHUEMIL_REFUSED_PIECES = 72,         /* the unit has more than 256 pieces */
+    IXOHUEMIL_REFUSED_PIECES = 72,         /* the unit has more than 65,535 pieces */
     IXOHUEMIL_REFUSED_PACK_OUTPUT = 73,    /* the output is too short for the packets */
     IXOHUEMIL_REFUSED_PACK_CID = 74,       /* the CID is above 4,095 */
     /* cut */
@@ -186,7 +187,7 @@ uint8_t ixohuemil_show(const uint8_t *packet, size_t packet_bytes, const uint8_t
 /* Packs a unit into TLV packets from the front of `output`, and writes their length to `*length`. The unit's fields are those of
  * `unit`, a record as next gives it: `what` is 2; `note`, `memory`, `start` and `length` do not count; a field above its
  * width on the air is refused with 92. `sn` is the first packet's sequence number of the compressed header, `m` the most
- * bytes of a piece. Refusals: 92, 70 to 74. */
+ * bytes of a piece. A unit of n pieces has n packets; their counters fall to 0, modulo 256. Refusals: 92, 70 to 74. */
 uint8_t ixohuemil_pack(const ixohuemil_event *unit, size_t unit_words, uint16_t cid, uint8_t sn, size_t m, const uint8_t *bytes,
                        size_t bytes_length, uint8_t *output, size_t output_bytes, uint64_t *length);
 

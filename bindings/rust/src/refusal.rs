@@ -41,7 +41,7 @@ refusals! {
     SlotLength = 23, "the slot has another length than its mode's";
     PieceSize = 70, "the piece size m is not 1 to 1,400";
     Kind = 71, "the kind is above 4";
-    Pieces = 72, "the unit has more than 256 pieces";
+    Pieces = 72, "the unit has more than 65,535 pieces";
     PackOutput = 73, "the output is too short for the packets";
     PackCid = 74, "the CID is above 4,095";
     Run = 75, "the run is not whole TLV packets, each starting with 0x7F";

@@ -4,7 +4,8 @@ use crate::link::{ixohuemil_cut, ixohuemil_pack};
 use crate::{Refusal, Unit};
 
 /// Packs a unit into TLV packets, from the front of `output`; how many bytes they are. `cid` is the flow's, `sn` the sequence
-/// number of the first compressed header, `m` the most bytes of a piece. Refused with 70 to 74, `output` as it was.
+/// number of the first compressed header, `m` the most bytes of a piece; a unit may have 65,535 pieces. Refused with 70 to
+/// 74, `output` as it was.
 ///
 /// ```
 /// use ixohuemil::{pack, Kind, Refusal, Unit};

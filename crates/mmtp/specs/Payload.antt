@@ -8,7 +8,7 @@ use native.Mathlib.Omega.{arith}
 use borrow.Author.Tests.{le-leb, lt-leb, eq-eqb, ne-eqb}
 use lib.Bits.{bitAnd}
 use lib.ListN.{length, getD, drop, length-drop}
-use lib.Dec.{eqb, leb, ltb}
+use lib.Dec.{eqb, leb}
 use lib.Seq.{getD-drop}
 use Rattle.wire.specs.Bits.{bitsAt, bits-shift}
 use Rattle.wire.specs.Field.{be, be-drop}
@@ -72,11 +72,11 @@ signallingOf m at = cond (leb 2 (length (drop at m))) (Good (signallingHead (dro
 unfoldable pub parsedOf : List ℕ → ℕ → ℕ → PayloadRead
 parsedOf m at type = cond (eqb type 0) (mpuOf m at) (cond (eqb type 2) (signallingOf m at) Malformed)
 
--- the counter's part of 52: "FI 01 or 10 with counter 0, FI 11 with counter not 0"
+-- the counter's part of 52: a first or middle piece "may carry 0 ..; only the last must be 0" (document 02, item 4)
 unfoldable pub counterFits : Indicator → ℕ → Bool
 counterFits Whole n = true
-counterFits First n = ltb 0 n
-counterFits Middle n = ltb 0 n
+counterFits First n = true
+counterFits Middle n = true
 counterFits Last n = eqb n 0
 
 -- "A with FI not 00"

@@ -5,7 +5,8 @@ use mathlib.Core.Bool.{Bool, true, false}
 use mathlib.Core.List.{List, [], _∷_}
 use lib.ListN.{replicate}
 use Rattle.wire.specs.Field.{be}
-use Rattle.mmtp.specs.declared.payload.Indicator.the-variants.{Whole, First}
+use Rattle.mmtp.specs.declared.payload.Indicator.{Indicator}
+use Rattle.mmtp.specs.declared.payload.Indicator.the-variants.{Whole, First, Middle}
 use Rattle.mmtp.specs.declared.payload.Payload.{Payload}
 use Rattle.mmtp.specs.declared.payload.PayloadRead.the-variants.{Good}
 use Rattle.mmtp.specs.Unit.{Piece, noFields, fieldBytes, fieldsOf, pieceOf, lengthBytes, unitFits, singleFits}
@@ -38,9 +39,9 @@ unfolding payloadOf tested parsedOf mpuOf be fragmentTypeOf counterFits indicato
     headerOf plain payloadStart fixedBytes extensionBytes extensionLength lookupOf firstFrom bodyRead lookedUp headRead readingOf
 payload-specimens = (refl, refl)
 
--- a signalling payload with FI 00, counter 0 and this H, without A
-abbrev signalled : Bool → Payload
-signalled h = record { kind = 4; indicator = Whole; counter = 0; mpu = 0; aggregated = false; wide = h; start = 2 }
+-- a signalling payload with this FI and this H, counter 0, without A
+abbrev signalled : Indicator → Bool → Payload
+signalled fi h = record { kind = 4; indicator = fi; counter = 0; mpu = 0; aggregated = false; wide = h; start = 2 }
 
 abbrev message : List ℕ → Piece
 message b = record { fields = noFields; bytes = b }
@@ -48,11 +49,11 @@ message b = record { fields = noFields; bytes = b }
 abbrev pub Examples : Type 0
 Examples =
     -- an empty signalling unit is read
-    (payloadOf (0 ∷ 0 ∷ []) 0 2 ≡ Good (signalled false))
-    × (piecesOf (0 ∷ 0 ∷ []) (signalled false) ≡ message [] ∷ [])
+    (payloadOf (0 ∷ 0 ∷ []) 0 2 ≡ Good (signalled Whole false))
+    × (piecesOf (0 ∷ 0 ∷ []) (signalled Whole false) ≡ message [] ∷ [])
     -- H without A is read, and the unit has no length before it
-    × (payloadOf (2 ∷ 0 ∷ 7 ∷ []) 0 2 ≡ Good (signalled true))
-    × (piecesOf (2 ∷ 0 ∷ 7 ∷ []) (signalled true) ≡ message (7 ∷ []) ∷ [])
+    × (payloadOf (2 ∷ 0 ∷ 7 ∷ []) 0 2 ≡ Good (signalled Whole true))
+    × (piecesOf (2 ∷ 0 ∷ 7 ∷ []) (signalled Whole true) ≡ message (7 ∷ []) ∷ [])
     -- two aggregated signalling units, the second empty
     × (aggregate (0 ∷ 1 ∷ 7 ∷ 0 ∷ 0 ∷ []) 4 false ≡ record { pieces = message (7 ∷ []) ∷ message [] ∷ []; fits = true })
     -- the second runs over the end
@@ -75,14 +76,15 @@ Examples =
     × (note 2 (0x81 ∷ 1 ∷ 0 ∷ 0 ∷ []) ≡ 52)
     -- with H the length of an aggregated unit has 32 bits
     × (aggregate (0 ∷ 0 ∷ 0 ∷ 1 ∷ 7 ∷ []) 4 true ≡ record { pieces = message (7 ∷ []) ∷ []; fits = true })
-    -- FI 01 and FI 10 with counter 0, FI 11 with counter 1
-    × (note 2 (0x40 ∷ 0 ∷ []) ≡ 52)
-    × (note 2 (0x80 ∷ 0 ∷ []) ≡ 52)
+    -- FI 01 and FI 10 with counter 0 are read; FI 11 with counter 1 is not, nor with 255
+    × (payloadOf (0x40 ∷ 0 ∷ []) 0 2 ≡ Good (signalled First false))
+    × (payloadOf (0x80 ∷ 0 ∷ []) 0 2 ≡ Good (signalled Middle false))
     × (note 2 (0xC0 ∷ 1 ∷ []) ≡ 52)
+    × (note 2 (0xC0 ∷ 255 ∷ []) ≡ 52)
 
 pub examples : Examples
 unfolding payloadOf piecesOf tested parsedOf mpuOf signallingOf be fragmentTypeOf counterFits indicatorOf aggregationFits unitsFit
     singleFits fieldBytes fieldsOf pieceOf lengthBytes unitFits unitThen aggregateBy aggregate aggregateFits
     headerOf plain payloadStart fixedBytes extensionBytes extensionLength lookupOf firstFrom bodyRead lookedUp headRead readingOf
 examples =
-    (refl, refl, refl, refl, refl, refl, refl, refl, refl, refl, refl, refl, refl, refl, refl, refl, refl, refl, refl, refl)
+    (refl, refl, refl, refl, refl, refl, refl, refl, refl, refl, refl, refl, refl, refl, refl, refl, refl, refl, refl, refl, refl)

@@ -134,8 +134,8 @@ fn counter_fits(indicator: Indicator, counter: u8) -> bool
 {
     match indicator {
         Indicator::Whole => true,
-        Indicator::First => 0 < counter,
-        Indicator::Middle => 0 < counter,
+        Indicator::First => true,
+        Indicator::Middle => true,
         Indicator::Last => counter == 0,
     }
 }

@@ -5,7 +5,7 @@ use mathlib.Core.Bool.{Bool, true, false, cond}
 use mathlib.Core.List.{List, [], _∷_, _++_}
 use native.Mathlib.Nat.{mod-lt}
 use native.Mathlib.Omega.{arith}
-use borrow.Author.Tests.{le-leb, lt-ltb, eq-eqb, ne-eqb, eqb-true, eqb-false}
+use borrow.Author.Tests.{le-leb, eq-eqb, ne-eqb, eqb-true, eqb-false}
 use lib.ListN.{length, getD, drop}
 use lib.Dec.{eqb}
 use lib.Seq.{getD-drop, drop-drop, drop-at}
@@ -319,20 +319,17 @@ packet-read cid sn place w p s c n o e h l =
       unit = rw behind-7 (unit-read p s o);
     }
 
--- a counter of 0 is the last's alone
+-- "only the last must be 0", and it is
 counter-fits : (n i : ℕ) → i < n → counterFits (indicatorAt n i) (counterAt n i) ≡ true
 unfolding indicatorAt counterAt counterFits
 counter-fits n i h = go (eqb n 1) (eqb i 0) (eqb (i + 1) n) refl refl refl
   where
     go : (a b c : Bool) → eqb n 1 ≡ a → eqb i 0 ≡ b → eqb (i + 1) n ≡ c
-        → counterFits (cond a Whole (cond b First (cond c Last Middle))) (n - 1 - i) ≡ true
+        → counterFits (cond a Whole (cond b First (cond c Last Middle))) ((n - 1 - i) % 256) ≡ true
     go true b c p q r = refl
-    go false true c p q r =
-        let x = eqb-false n 1 p in
-        let y = eqb-true i 0 q in
-        lt-ltb 0 (n - 1 - i) (omega arith)
-    go false false true p q r = let y = eqb-true (i + 1) n r in eq-eqb (n - 1 - i) 0 (omega arith)
-    go false false false p q r = let y = eqb-false (i + 1) n r in lt-ltb 0 (n - 1 - i) (omega arith)
+    go false true c p q r = refl
+    go false false true p q r = let y = eqb-true (i + 1) n r in eq-eqb ((n - 1 - i) % 256) 0 (omega arith)
+    go false false false p q r = refl
 
 pub with-packable : (u : Unit) (i : ℕ) → Packable u → Packable (withPsn u i)
 unfolding withPsn

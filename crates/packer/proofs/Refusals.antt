@@ -21,12 +21,12 @@ use Rattle.packer.specs.Refusals.{PackRefused}
 use Rattle.packer.proofs.Pieces.{count-pieces, covers}
 use Rattle.packer.proofs.Runs.{length-run}
 
--- what is at most 256 pieces of at most 1,400 bytes is small
-pub small : (m len head : ℕ) → 0 < m → m ≤ 1400 → countOf m len ≤ 256 → head ≤ 41
-    → (countOf m len * head ≤ 10496) × (len ≤ 358400)
+-- what is no more than the most pieces, of at most 1,400 bytes each, is small
+pub small : (m len head : ℕ) → 0 < m → m ≤ 1400 → countOf m len ≤ maxPieces → head ≤ 41
+    → (countOf m len * head ≤ maxPieces * 41) × (len ≤ 1400 * maxPieces)
 small m len head p h n k =
-    let a : countOf m len * head ≤ 256 * 41 = mul-le-mul n k in
-    let b : m * countOf m len ≤ 1400 * 256 = mul-le-mul h n in
+    let a : countOf m len * head ≤ maxPieces * 41 = mul-le-mul n k in
+    let b : m * countOf m len ≤ 1400 * maxPieces = mul-le-mul h n in
     (omega arith, omega (arith, covers m len p))
 
 module _ (u : Unit) (cid sn m : ℕ) (s out : List ℕ) where
@@ -49,11 +49,11 @@ module _ (u : Unit) (cid sn m : ℕ) (s out : List ℕ) where
       kind-large h = rw (ne-eqb _ _ a, le-ltb _ _ b, lt-ltb _ _ h)
 
       module _ (k : u .kind ≤ 4) where
-        pub too-many : 256 < countOf m (length s) → packOf u cid sn m s out ≡ (Refused 72, out)
+        pub too-many : maxPieces < countOf m (length s) → packOf u cid sn m s out ≡ (Refused 72, out)
         unfolding packOf packRefusal
         too-many h = rw (ne-eqb _ _ a, le-ltb _ _ b, le-ltb _ _ k, count-pieces m s, lt-ltb _ _ h)
 
-        module _ (n : countOf m (length s) ≤ 256) where
+        module _ (n : countOf m (length s) ≤ maxPieces) where
           pub output-short : length out < total
               → packOf u cid sn m s out ≡ (Refused 73, out)
           unfolding packOf packRefusal

@@ -96,7 +96,7 @@ agrees-with u i =
 
 counter-on : (n i : ℕ) → i + 1 < n → counterFollows (counterAt n i) (counterAt n (i + 1)) ≡ true
 unfolding counterFollows counterAt
-counter-on n i h = eq-eqb (n - 1 - i) (n - 1 - (i + 1) + 1) (omega arith)
+counter-on n i h = eq-eqb ((n - 1 - i) % 256) (((n - 1 - (i + 1)) % 256 + 1) % 256) (omega arith)
 
 indicator-middle : (n i : ℕ) → i + 1 + 1 < n → indicatorAt n (i + 1) ≡ Middle
 unfolding indicatorAt

@@ -31,8 +31,8 @@ joined (p ∷ ps) = p ++ joined ps
 unfoldable pub run : Unit → ℕ → ℕ → ℕ → List ℕ → List ℕ
 run u cid sn m s = joined (packets u cid sn m s)
 
--- "70 piece size m not 1 to 1,400; 71 kind above 4; 72 over 256 pieces; 73 output short; 74 CID above 4,095", in this order:
--- `n` pieces, a run of `len` bytes, an output of `room`
+-- "70 piece size m not 1 to 1,400; 71 kind above 4"; 72 "above 65,535 pieces" (document 02, item 4); "73 output short; 74 CID above
+-- 4,095", in this order: `n` pieces, a run of `len` bytes, an output of `room`
 unfoldable pub packRefusal : ℕ → ℕ → ℕ → ℕ → ℕ → ℕ → ℕ
 packRefusal m kind n len room cid =
     cond (eqb m 0) 70

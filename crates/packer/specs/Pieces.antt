@@ -27,15 +27,15 @@ countOf m len = countBy len m len
 
 -- the most pieces of a unit
 abbrev pub maxPieces : ℕ
-maxPieces = 256
+maxPieces = 65535
 
 -- "up to m bytes as FI 00", otherwise first, middle, last
 unfoldable pub indicatorAt : ℕ → ℕ → Indicator
 indicatorAt n i = cond (eqb n 1) Whole (cond (eqb i 0) First (cond (eqb (i + 1) n) Last Middle))
 
--- "counters falling to 0"
+-- "counters falling to 0", "modulo 256" (document 02, item 4)
 unfoldable pub counterAt : ℕ → ℕ → ℕ
-counterAt n i = n - 1 - i
+counterAt n i = (n - 1 - i) % 256
 
 -- "psn (modulo 4,294,967,296) .. rising by one from the caller's"
 unfoldable pub withPsn : Unit → ℕ → Unit

@@ -9,7 +9,7 @@ use reassembly::join::Piece;
 use reassembly::unit::Unit;
 
 // The most pieces of a unit.
-pub const MAX_PIECES: usize = 256;
+pub const MAX_PIECES: usize = 65535;
 
 // How many pieces of at most `m` bytes a unit of `len` bytes has: they are taken away one by one, without a division. The count stops
 // as soon as it is above the most pieces of a unit, so a longer unit costs no more.
@@ -53,12 +53,12 @@ fn indicator_at(n: usize, i: usize) -> Indicator
     Indicator::Middle
 }
 
-// The counter of piece `i` of `n`.
+// The counter of piece `i` of `n`: how many pieces come behind it, modulo 256.
 fn counter_at(n: usize, i: usize) -> u8
-    requires { ⌜ (i < n) × (n ≤ maxPieces) ⌝ }
+    requires { ⌜ i < n ⌝ }
     ensures { λ r. ⌜ r ≡ counterAt n i ⌝ }
 {
-    (n - 1 - i) as u8
+    ((n - 1 - i) % 256) as u8
 }
 
 // Piece `i` of `n`, of `len` bytes: the unit with the packet's own psn, FI and counter.

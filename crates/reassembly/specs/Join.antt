@@ -1,5 +1,5 @@
 -- Joining: steps (a), (b) and (c) for one packet of a watched packet_id.
-use Prim.Native.Nat.{ℕ, _+_, _<_, _≤_}
+use Prim.Native.Nat.{ℕ, _+_, _%_, _<_, _≤_}
 use mathlib.Core.Path.{_≡_}
 use mathlib.Core.Bool.{Bool, true, false, cond, _&&_}
 use mathlib.Core.List.{List, [], _∷_, _++_}
@@ -53,9 +53,9 @@ begun ch p rules n =
       action = Store 0;
     })
 
--- the counter's part of 63: "with a counter one lower"
+-- the counter's part of 63: "one lower modulo 256" (document 02, item 4), so 0 is followed by 255
 unfoldable pub counterFollows : ℕ → ℕ → Bool
-counterFollows before counter = eqb before (counter + 1)
+counterFollows before counter = eqb before ((counter + 1) % 256)
 
 abbrev pub longer : Channel → Piece → OpenUnit
 longer ch p = record { unit = ch .current .unit; counter = p .counter; len = ch .current .len + p .len }

@@ -7,4 +7,5 @@ pub mod Run
 pub mod Sent
 pub mod Claims
 pub mod Lost
+pub mod Hole
 pub mod Specimens

@@ -15,7 +15,7 @@ use Rattle.reassembly.specs.Run.{Input, Labelled, note, unit, fresh, ste
 use Rattle.reassembly.specs.Sent.{openUnit, sentAfter, sent}
 use Rattle.reassembly.specs.Claims.{received, unharmed}
 
-abbrev info : ℕ → ℕ → UnitInfo
+abbrev pub info : ℕ → ℕ → UnitInfo
 info id psn =
     record {
       «packet_id» = id;
@@ -26,7 +26,7 @@ info id psn =
     }
 
 -- a signalling packet, by its packet_id, which is its place too, its psn, indicator, counter and bytes
-abbrev packet : ℕ → ℕ → Indicator → ℕ → List ℕ → Input
+abbrev pub packet : ℕ → ℕ → Indicator → ℕ → List ℕ → Input
 packet id psn fi counter bytes =
     record {
       place = id;

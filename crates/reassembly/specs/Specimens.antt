@@ -102,8 +102,11 @@ abbrev pub Examples : Type 0
 Examples =
     -- the psn wraps inside a unit
     (seen (upTo 100) unheard (piece 4294967295 First 1 ∷ piece 0 Last 0 ∷ []) ≡ quiet (Store 0) ∷ quiet (Complete 10) ∷ [])
-    -- FI 11 after a counter of 255: 63, though the psn follows
-    × Apart (piece 5 First 255) (piece 6 Last 0)
+    -- "one lower modulo 256": 0 is followed by 255, and a middle piece with counter 0 does not end the unit
+    × (seen (upTo 100) unheard (piece 5 First 1 ∷ piece 6 Middle 0 ∷ piece 7 Middle 255 ∷ [])
+    ≡ quiet (Store 0) ∷ quiet (Store 10) ∷ quiet (Store 20) ∷ [])
+    -- FI 11, whose counter is 0, after another counter than 1: 63, though the psn follows
+    × Apart (piece 5 First 255) (piece 6 Last 0) × Apart (piece 5 First 0) (piece 6 Last 0)
     -- "must agree in kind, MPU number, movie fragment and sample (or item)", also at FI 10
     × Apart (piece 5 First 2) (with-fields 1 0 0 0 (piece 6 Middle 1))
     × Apart (piece 5 First 1) (piece-of 9 6 Last 0)
@@ -130,4 +133,5 @@ Examples =
 
 pub examples : Examples
 unfolding nextPsn heard gap unheard agrees interrupted begun counterFollows grown extended followed acted joinOf notesOf seen
-examples = (refl, refl, refl, refl, refl, refl, refl, refl, refl, refl, refl, refl, refl, refl, refl, refl, refl)
+examples =
+    (refl, refl, refl, refl, refl, refl, refl, refl, refl, refl, refl, refl, refl, refl, refl, refl, refl, refl, refl)

@@ -110,14 +110,11 @@ fn begin(ch: Channel, p: Piece, rules: Rules, note: u8) -> Joined
     }
 }
 
-// Whether a piece's counter is one lower than the one before.
+// Whether a piece's counter is one lower than the one before, modulo 256.
 fn counter_follows(before: u8, counter: u8) -> bool
     ensures { λ r. ⌜ r ≡ counterFollows before counter ⌝ }
 {
-    if before == 0 {
-        return false;
-    }
-    before - 1 == counter
+    before == std::num::wrapping_add_u8(counter, 1)
 }
 
 // The open unit with this piece behind it.

@@ -15,7 +15,7 @@ use Rattle.mmtp.specs.declared.watch.Found.the-variants.{At}
 use Rattle.mmtp.specs.Watch.{lookupOf, firstFrom}
 use Rattle.reassembly.specs.declared.unit.Unit.{Unit}
 use Rattle.state.specs.Start.{before, twiceBelow, twice, startRefusal, startFrom}
-use Rattle.packer.specs.Pieces.{piecesBy, pieces, indicatorAt, counterAt, withPsn, pieceAt}
+use Rattle.packer.specs.Pieces.{piecesBy, pieces, maxPieces, indicatorAt, counterAt, withPsn, pieceAt}
 use Rattle.packer.specs.Packet.{
   outerHead,
   payloadType,
@@ -62,7 +62,7 @@ padding = (
   (null-so 0 0 refl refl refl refl, tt),
   (
     (null-so 0x3F 0xFC refl refl refl refl, (null-so 0 0 refl refl refl refl, tt)),
-    no-gaps 260 ((null 7 3 ∷ []) ∷ []) ((null-so 7 3 refl refl refl refl, tt), tt),
+    no-gaps 304 ((null 3 15 ∷ []) ∷ []) ((null-so 3 15 refl refl refl refl, tt), tt),
   ),
 )
 
@@ -103,9 +103,9 @@ packable u r f m =
       own-mpu = m;
     }
 
-sendable : (x : Parcel) (k : ℕ) → ltb 0 (x .m) && leb (x .m) 1400 ≡ true → leb (pieceCount x) 256 ≡ true → inRange (x .unit) ≡ true
+sendable : (x : Parcel) (k : ℕ) → ltb 0 (x .m) && leb (x .m) 1400 ≡ true → leb (pieceCount x) maxPieces ≡ true → inRange (x .unit) ≡ true
     → ownFields (x .unit .kind) (x .unit .fields) ≡ x .unit .fields → (x .unit .kind ≡ 4 → x .unit .mpu ≡ 0)
-    → lookupOf (config .watch) (x .unit .«packet_id») ≡ At k → (1 < pieceCount x → length (x .bytes) ≤ 256) → Sendable config x
+    → lookupOf (config .watch) (x .unit .«packet_id») ≡ At k → (1 < pieceCount x → length (x .bytes) ≤ 300) → Sendable config x
 sendable x k m n r f z w l =
     let s = and-both _ _ m in
     record {

@@ -1,5 +1,5 @@
--- A run that meets the round trip's conditions: three packet_ids, all kinds, a unit of 256 pieces and exactly R bytes whose psn
--- wraps, an empty one, one in two pieces, one in one piece above R, null packets of 4 and of 16,384 bytes, and one that fills the
+-- A run that meets the round trip's conditions: three packet_ids, all kinds, a unit of 300 pieces and exactly R bytes whose counter
+-- and psn wrap, an empty one, one in two pieces, one in one piece above R, null packets of 4 and of 16,384 bytes, and one that fills the
 -- last slot.
 use Prim.Native.Nat.{ℕ, _+_, _*_}
 use mathlib.Core.Path.{_≡_}
@@ -14,9 +14,9 @@ use Rattle.cutter.specs.Slot.{unlisted}
 use Rattle.roundtrip.specs.Sending.{Parcel, AllSendable, Consecutive, AllGaps}
 use Rattle.roundtrip.specs.RoundTrip.{runOf}
 
--- R is 256; packet_id 20 is watched and not sent
+-- R is 300; packet_id 20 is watched and not sent
 abbrev pub config : Config
-config = record { stream = 1; cid = 2; watch = record { ids = 17 ∷ 18 ∷ 19 ∷ 20 ∷ replicate 12 0; n = 4 }; rules = record { limit = 256 } }
+config = record { stream = 1; cid = 2; watch = record { ids = 17 ∷ 18 ∷ 19 ∷ 20 ∷ replicate 12 0; n = 4 }; rules = record { limit = 300 } }
 
 abbrev parcel : ℕ → ℕ → ℕ → ℕ → Fields → ℕ → List ℕ → Parcel
 parcel id kind psn mpu fields m bytes =
@@ -28,7 +28,7 @@ parcel id kind psn mpu fields m bytes =
     }
 
 abbrev pub inPieces : Parcel
-inPieces = parcel 17 4 4294967200 0 noFields 1 (replicate 256 7)
+inPieces = parcel 17 4 4294967200 0 noFields 1 (replicate 300 7)
 
 abbrev pub timed : Parcel
 timed =
@@ -36,7 +36,7 @@ timed =
     (1 ∷ 2 ∷ 3 ∷ [])
 
 abbrev pub nothing : Parcel
-nothing = parcel 17 4 160 0 noFields 1 []
+nothing = parcel 17 4 204 0 noFields 1 []
 
 abbrev pub item : Parcel
 item =
@@ -45,7 +45,7 @@ item =
 
 -- in one piece, and longer than R
 abbrev pub aboveLimit : Parcel
-aboveLimit = parcel 18 0 10 5 noFields 1400 (replicate 300 9)
+aboveLimit = parcel 18 0 10 5 noFields 1400 (replicate 344 9)
 
 abbrev pub metadata : Parcel
 metadata = parcel 19 1 2 7 noFields 5 (1 ∷ 2 ∷ 3 ∷ [])
@@ -57,10 +57,10 @@ units = inPieces ∷ timed ∷ nothing ∷ item ∷ aboveLimit ∷ metadata ∷ 
 abbrev pub null : ℕ → ℕ → List ℕ
 null a b = 0x7F ∷ 0xFF ∷ a ∷ b ∷ replicate (a * 256 + b) 3
 
--- before the first of 262 packets; two of them before the second, which is in the middle of the first unit; behind the last
+-- before the first of 306 packets; two of them before the second, which is in the middle of the first unit; behind the last
 abbrev pub gaps : List (List (List ℕ))
 gaps =
-    (null 0 0 ∷ []) ∷ (null 0x3F 0xFC ∷ null 0 0 ∷ []) ∷ replicate 260 [] ++ ((null 7 3 ∷ []) ∷ [])
+    (null 0 0 ∷ []) ∷ (null 0x3F 0xFC ∷ null 0 0 ∷ []) ∷ replicate 304 [] ++ ((null 3 15 ∷ []) ∷ [])
 
 -- it fills 13 slots of 1,870 bytes
 pub record Meets : Type 0 where

@@ -25,7 +25,7 @@ slots = slotsFrom (runOf config units gaps) 1870 0 13
 abbrev pub pointers : List (ℕ × ℕ)
 pointers =
     (0, 26) ∷ repeated 7 ((0xFFFF, 0xFFFF) ∷ [])
-    ++ ((1450, 1850) ∷ (2, 1850) ∷ (2, 1850) ∷ (2, 1584) ∷ (41, 1870) ∷ [])
+    ++ ((1450, 1850) ∷ (2, 1850) ∷ (2, 1850) ∷ (2, 1850) ∷ (2, 1870) ∷ [])
 
 -- four bytes for each live slot, and 0 for the four dummies behind it
 abbrev pointerBytes : List (ℕ × ℕ) → List ℕ
@@ -62,7 +62,7 @@ pub record ComesBack : Type 0 where
   -- the own live slots are the run's, with the cutter's pointers
   pub own : map (λ (x : (ℕ × ℕ) × Slot). x .1) (ownSlots (config .stream) 0 frames) ≡ slots
   -- with memories of at least 21,433 and n × R bytes there is a reading, and any reading has no call refused and shows the units
-  pub readable : (p c : List ℕ) → packetMemory ≤ length p → 1024 ≤ length c → (xs : List Made) × Reads config frames none p c xs
-  pub shows : (p c : List ℕ) → packetMemory ≤ length p → 1024 ≤ length c → (xs : List Made) → Reads config frames none p c xs
+  pub readable : (p c : List ℕ) → packetMemory ≤ length p → 1200 ≤ length c → (xs : List Made) × Reads config frames none p c xs
+  pub shows : (p c : List ℕ) → packetMemory ≤ length p → 1200 ≤ length c → (xs : List Made) → Reads config frames none p c xs
       → (refusedOf config frames none p c xs ≡ [])
       × (shownOf config frames none p c xs ≡ map (λ (u : Parcel). unit (contentOf u)) units)

@@ -44,8 +44,8 @@ counted c = counts (c .before) .0 (c .if4 .left)
 
 -- what is written is small
 few : (c : tie.After-head-bytes)
-    → (c .before .before .count .result * c .head-bytes .result ≤ 10496)
-    × (length (c .before .before .before .before .before .before .before .before .args .bytes .now) ≤ 358400)
+    → (c .before .before .count .result * c .head-bytes .result ≤ maxPieces * 41)
+    × (length (c .before .before .before .before .before .before .before .before .args .bytes .now) ≤ 1400 * maxPieces)
 few c =
     let q = c .before .before in
     let d = q .before in
