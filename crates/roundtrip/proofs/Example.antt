@@ -15,7 +15,7 @@ use Rattle.mmtp.specs.declared.watch.Found.the-variants.{At}
 use Rattle.mmtp.specs.Watch.{lookupOf, firstFrom}
 use Rattle.reassembly.specs.declared.unit.Unit.{Unit}
 use Rattle.state.specs.Start.{before, twiceBelow, twice, startRefusal, startFrom}
-use Rattle.packer.specs.Pieces.{piecesBy, pieces, maxPieces, indicatorAt, counterAt, withPsn, pieceAt}
+use Rattle.packer.specs.Pieces.{piecesBy, pieces, indicatorAt, counterAt, withPsn, pieceAt}
 use Rattle.packer.specs.Packet.{
   outerHead,
   payloadType,
@@ -103,7 +103,7 @@ packable u r f m =
       own-mpu = m;
     }
 
-sendable : (x : Parcel) (k : ℕ) → ltb 0 (x .m) && leb (x .m) 1400 ≡ true → leb (pieceCount x) maxPieces ≡ true → inRange (x .unit) ≡ true
+sendable : (x : Parcel) (k : ℕ) → ltb 0 (x .m) && leb (x .m) 1400 ≡ true → leb (pieceCount x) 300 ≡ true → inRange (x .unit) ≡ true
     → ownFields (x .unit .kind) (x .unit .fields) ≡ x .unit .fields → (x .unit .kind ≡ 4 → x .unit .mpu ≡ 0)
     → lookupOf (config .watch) (x .unit .«packet_id») ≡ At k → (1 < pieceCount x → length (x .bytes) ≤ 300) → Sendable config x
 sendable x k m n r f z w l =
@@ -111,7 +111,7 @@ sendable x k m n r f z w l =
     record {
       positive = ltb-true _ _ (s .0);
       small = leb-true _ _ (s .1);
-      few = leb-true _ _ n;
+      few = omega (arith, leb-true (pieceCount x) 300 n);
       packable = packable (x .unit) r f z;
       place = k;
       watched = w;
