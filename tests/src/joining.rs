@@ -136,7 +136,8 @@ impl Flow {
             return Step::noted(note, 0);
         }
         let open = &mut self.open;
-        // A kind without some of these fields has 0 there, so the comparison can be the same for all.
+        // A kind without some of these fields has 0 there, so the comparison can be the same for all. The
+        // counter is one lower modulo 256: 0 is followed by 255.
         let agrees = packet.kind == open.kind
             && packet.mpu == open.mpu
             && fields.fragment == open.fields.fragment

@@ -6,7 +6,7 @@ use crate::packets::{FI_FIRST, FI_LAST, FI_MIDDLE, FI_WHOLE};
 use crate::Refusal;
 
 pub const MAX_PIECE: usize = 1_400;
-const MAX_PIECES: usize = 256;
+const MAX_PIECES: usize = 65_535;
 const HEADERS: usize = 4 + 3 + 12;
 
 /// What a unit's packets say of it; fields that the kind lacks are not written.
@@ -62,7 +62,7 @@ pub fn pack(
         };
         let mut writer = Writer { out, at };
         writer.headers(head, before + piece.len(), numbers);
-        writer.payload(head, piece, indicator(i, pieces), (pieces - 1 - i) as u8);
+        writer.payload(head, piece, indicator(i, pieces), counter(i, pieces));
         at = writer.at;
     }
     Ok(at)
@@ -76,6 +76,11 @@ fn indicator(i: usize, pieces: usize) -> u8 {
         (false, false) => FI_MIDDLE,
         (false, true) => FI_LAST,
     }
+}
+
+/// Counter of piece `i`: the pieces behind it, modulo 256.
+fn counter(i: usize, pieces: usize) -> u8 {
+    ((pieces - 1 - i) % 256) as u8
 }
 
 fn payload_header_len(kind: u8) -> usize {

@@ -281,11 +281,8 @@ fn read_signalling(payload: &[u8]) -> Option<Packet> {
 /// Indicator, counter and aggregation agree, and what follows the payload header is units.
 #[inline(always)]
 fn good(packet: &Packet, body: &[u8]) -> bool {
-    let counter_fits = match packet.indicator {
-        FI_WHOLE => true,
-        FI_LAST => packet.counter == 0,
-        _ => packet.counter != 0,
-    };
+    // The counter runs modulo 256, so a first or middle piece may have 0 too.
+    let counter_fits = packet.indicator != FI_LAST || packet.counter == 0;
     if packet.prefix == 0 {
         return counter_fits && body.len() >= fields_len(packet.kind);
     }

@@ -166,14 +166,14 @@ fn packer_in_order() {
         fields: UnitFields::default(),
     };
     let numbers = |cid| Numbers { cid, sn: 0, psn: 7 };
-    let (long, mut none) = ([0; 257], [0xAA; 0]);
+    let (long, mut none) = (vec![0; 65_536], [0xAA; 0]);
     let mut packed =
         |kind, len: usize, m, cid| pack(&head(kind), &long[..len], m, numbers(cid), &mut none);
-    assert_eq!(packed(5, 257, 0, 4_096), Err(70));
-    assert_eq!(packed(5, 257, 1_401, 4_096), Err(70));
-    assert_eq!(packed(5, 257, 1, 4_096), Err(71));
-    assert_eq!(packed(4, 257, 1, 4_096), Err(72));
-    assert_eq!(packed(4, 256, 1, 4_096), Err(73));
+    assert_eq!(packed(5, 65_536, 0, 4_096), Err(70));
+    assert_eq!(packed(5, 65_536, 1_401, 4_096), Err(70));
+    assert_eq!(packed(5, 65_536, 1, 4_096), Err(71));
+    assert_eq!(packed(4, 65_536, 1, 4_096), Err(72));
+    assert_eq!(packed(4, 65_535, 1, 4_096), Err(73));
     let mut out = [0xAA; 24];
     let sent = pack(&head(4), &[1, 2], 2, numbers(4_096), &mut out);
     assert_eq!((sent, out), (Err(74), [0xAA; 24]));
@@ -223,6 +223,43 @@ fn packed_pieces_byte_for_byte() {
         b"c",
     ];
     assert_eq!(out[..len], [first.concat(), last.concat()].concat());
+}
+
+/// Counters fall to 0 modulo 256, FI 11 stands on the last piece alone, psn and SN rise: from the last
+/// piece back to the first.
+#[test]
+fn packed_pieces_of_long_units() {
+    let head = Head {
+        packet_id: 9,
+        kind: 4,
+        mpu: 0,
+        fields: UnitFields::default(),
+    };
+    let (cid, sn, first) = (5, 3, u32::MAX - 300);
+    let numbers = Numbers {
+        cid,
+        sn,
+        psn: first,
+    };
+    for pieces in [2, 255, 256, 257, 258, 300, 512, 513, 514, 65_535] {
+        let unit: Vec<u8> = (0..pieces).map(|i| (i % 251) as u8).collect();
+        let mut out = vec![0xAA; 22 * pieces + 1];
+        let sent = pack(&head, &unit, 1, numbers, &mut out);
+        assert_eq!((sent, out.pop()), (Ok(22 * pieces), Some(0xAA)));
+        let (mut indicator, mut counter) = (3, 0u8);
+        let mut psn = first.wrapping_add(pieces as u32);
+        for (i, packet) in out.chunks_exact(22).enumerate().rev() {
+            psn = psn.wrapping_sub(1);
+            if i == 0 {
+                indicator = 1;
+            }
+            let mut due = signalling(9, psn, indicator, counter, &unit[i..i + 1]);
+            due[5] |= (3 + i) as u8 & 15;
+            assert_eq!(packet, due, "piece {i} of {pieces}");
+            (indicator, counter) = (2, counter.wrapping_add(1));
+        }
+        assert_eq!(psn, first);
+    }
 }
 
 #[test]

@@ -376,7 +376,7 @@ fn three_pieces_and_a_gap() {
 fn a_psn_noted_52_is_not_recorded() {
     let packets = [
         signalling(9, 5, 1, 1, b"a"),
-        signalling(9, 6, 1, 0, b"bad"),
+        signalling(9, 6, 3, 1, b"bad"),
         signalling(9, 6, 3, 0, b"b"),
     ];
     let got = read_packets(&[9], &packets);
@@ -510,9 +510,8 @@ fn payloads_noted_52() {
         signal(&[0x01, 0]),
         signal(&[0x03, 0, 0, 0]),
         signal(&[0x41, 1, 0, 0]),
-        signal(&[0x40, 0]),
-        signal(&[0x80, 0]),
         signal(&[0xC0, 1]),
+        signal(&[0xC0, 255]),
     ];
     for (i, packet) in bad.iter().enumerate() {
         let reading = read(packet, 5, &watch);
