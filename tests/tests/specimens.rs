@@ -1,6 +1,8 @@
-//! The specimens of document 01, starred or not, and its traps; every first byte of a TLV header.
+//! The specimens of document 01, starred or not, and its traps; every first byte of a TLV header; counters.
 
 mod common;
+#[path = "specimens/counters.rs"]
+mod counters;
 
 use common::{
     block, cut_padded, feed, flow, mmtp, mpu, read_packets, signalling, station, tlv, Read,

@@ -1,6 +1,8 @@
 //! Shared by the tests: reading a broadcast by the calls, and packets written out by hand.
 #![allow(dead_code)]
 
+use std::ops::Range;
+
 use second::calls::{self, show, Event, Receiver};
 use second::control_block::{decode, SlotPlan};
 use second::generate::broadcast::{Broadcast, Losses};
@@ -198,6 +200,32 @@ pub fn mpu(id: u16, psn: u32, head: u8, counter: u8, number: u32, after: &[u8]) 
     out.extend(number.to_be_bytes());
     out.extend(after);
     flow(&out)
+}
+
+/// A unit of `count` pieces, at least 2, from this psn on: counters fall to 0 modulo 256, every tenth piece
+/// has a byte. `packet` writes each from psn, FI, counter and bytes.
+pub fn in_pieces(
+    count: usize,
+    psn: u32,
+    packet: impl Fn(u32, u8, u8, &[u8]) -> Vec<u8>,
+) -> Vec<Vec<u8>> {
+    let piece = |i: usize| {
+        let indicator = match i {
+            0 => 1,
+            _ if i + 1 == count => 3,
+            _ => 2,
+        };
+        let counter = ((count - 1 - i) % 256) as u8;
+        let psn = psn.wrapping_add(i as u32);
+        packet(psn, indicator, counter, &bytes_of(i..i + 1))
+    };
+    (0..count).map(piece).collect()
+}
+
+/// The bytes of these pieces of such a unit.
+pub fn bytes_of(pieces: Range<usize>) -> Vec<u8> {
+    let tenth = pieces.filter(|i| i % 10 == 0);
+    tenth.map(|i| (i % 251) as u8).collect()
 }
 
 /// Reads these packets in frames of BPSK 1/3, padded with a null packet.
