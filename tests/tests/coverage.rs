@@ -1,5 +1,5 @@
-//! The catalogue reaches every note, every refusal that a capture can reach, every kind of unit, and a
-//! bad first byte at every place that a header can have.
+//! The catalogue reaches every note, every refusal that a capture can reach, every kind of unit, a bad first
+//! byte at every place that a header can have, and units and holes that the counter runs round in.
 
 mod common;
 
@@ -7,10 +7,12 @@ use std::collections::BTreeMap;
 
 use common::own_slots;
 use second::capture::lines_of;
+use second::fields::be16;
 use second::generate::boundary::HELD_CAPTURES;
 use second::generate::catalogue::{capture, family, FAMILIES};
 use second::generate::damage::headers;
-use second::slots::sound;
+use second::packets::{read, Packet, Reading, UnitFields, Watch};
+use second::slots::{packet_total, sound, Stream, PACKET_MEMORY};
 
 const NOTES: [u8; 12] = [40, 41, 42, 43, 50, 51, 52, 60, 61, 62, 63, 64];
 /// 10 and 21 can't be reached: F has its length, and next is called until nothing waits.
@@ -143,5 +145,133 @@ fn bad_first_bytes_at_every_place() {
             println!("{count:8} {place}: {range}");
             assert!(count >= floor, "{place}, {range}: {count}");
         }
+    }
+}
+
+/// A good packet, and the fields that its first unit or piece starts with.
+type Good = (Packet, UnitFields);
+
+/// The good packets of each watched packet_id of a capture, in order.
+fn good_packets(capture: &[u8]) -> Vec<Vec<Good>> {
+    let (cid, n) = (be16(capture, 3), usize::from(capture[5]));
+    let ids: Vec<u16> = (0..n).map(|k| be16(capture, 6 + 2 * k)).collect();
+    let (watch, mut out) = (Watch::new(&ids), vec![Vec::new(); n]);
+    let (mut stream, mut memory) = (Stream::default(), vec![0; PACKET_MEMORY]);
+    for (data, t, last) in own_slots(capture) {
+        let taken = match data {
+            Some(data) => stream.take(&data, t, last, &mut memory),
+            None => stream.lose(),
+        };
+        let mut parts = vec![0..taken.continued];
+        let mut at = taken.at;
+        while at < taken.end {
+            parts.push(at..at + packet_total(&memory, at));
+            at = parts[parts.len() - 1].end;
+        }
+        for part in parts.into_iter().filter(|part| !part.is_empty()) {
+            let bytes = &memory[part];
+            if let Reading::Good(packet) = read(bytes, cid, &watch) {
+                let fields = match packet.prefix {
+                    0 => UnitFields::read(packet.kind, &bytes[packet.at..]),
+                    _ => UnitFields::default(),
+                };
+                out[packet.place].push((packet, fields));
+            }
+        }
+    }
+    out
+}
+
+/// Whether a piece agrees with the one before it, whatever their psn.
+fn agrees(before: &Good, piece: &Good) -> bool {
+    let key = |(packet, fields): &Good| (packet.kind, packet.mpu, fields.fragment, fields.sample);
+    let one_lower = before.0.counter.wrapping_sub(1);
+    key(before) == key(piece) && piece.0.counter == one_lower
+}
+
+/// What the counters of one packet_id's packets do, each as often as it does.
+fn counted(packets: &[Good]) -> Vec<&'static str> {
+    let mut out = Vec::new();
+    let mut open = 0; // pieces of the open unit, or 0
+    for (i, piece) in packets.iter().enumerate() {
+        let (indicator, counter) = (piece.0.indicator, piece.0.counter);
+        match (indicator, counter) {
+            (1, 0) => out.push("first piece with 0"),
+            (2, 0) => out.push("middle piece with 0"),
+            _ => {}
+        }
+        if indicator < 2 || open == 0 {
+            open = usize::from(indicator == 1);
+            continue;
+        }
+        let before = &packets[i - 1];
+        let agrees = agrees(before, piece);
+        match (piece.0.psn.wrapping_sub(before.0.psn), before.0.counter) {
+            (1, 0) if agrees => out.push("0, then 255"),
+            (1, 0) => out.push("0, then no piece that agrees"),
+            (257, _) if agrees => out.push("256 pieces lost"),
+            (513, _) if agrees => out.push("512 pieces lost"),
+            (256 | 258, _) => out.push("255 or 257 pieces lost"),
+            _ => {}
+        }
+        let goes_on = agrees && piece.0.psn == before.0.psn.wrapping_add(1);
+        open = if goes_on { open + 1 } else { 0 };
+        if goes_on && indicator == 3 {
+            match open {
+                257 => out.push("unit of 257 pieces"),
+                513 => out.push("unit of 513 pieces"),
+                258.. => out.push("unit of more pieces"),
+                _ => {}
+            }
+            open = 0;
+        }
+    }
+    out
+}
+
+/// What counters must do, in which family, and how often.
+const COUNTERS: [(&str, &str, u64); 16] = [
+    ("holes of 256 pieces", "256 pieces lost", 100),
+    ("holes of 256 pieces", "512 pieces lost", 20),
+    ("holes of 256 pieces", "255 or 257 pieces lost", 50),
+    ("holes of 256 pieces", "0, then 255", 200),
+    ("holes of 256 pieces", "first piece with 0", 100),
+    ("holes of 256 pieces", "middle piece with 0", 50),
+    ("holes of 256 pieces", "unit of 257 pieces", 20),
+    ("holes of 256 pieces", "unit of 513 pieces", 10),
+    ("holes of 256 pieces", "unit of more pieces", 20),
+    ("joining noise", "256 pieces lost", 200),
+    ("joining noise", "0, then 255", 1_000),
+    ("joining noise", "0, then no piece that agrees", 200),
+    ("joining noise", "first piece with 0", 1_000),
+    ("joining noise", "middle piece with 0", 1_000),
+    ("undamaged", "first piece with 0", 20),
+    ("undamaged", "0, then 255", 20),
+];
+
+#[test]
+fn counters_that_run_round() {
+    let families = [
+        "undamaged",
+        "slots and frames lost",
+        "packets damaged",
+        "slots damaged",
+        "joining noise",
+        "holes of 256 pieces",
+    ];
+    let mut counts: BTreeMap<(&str, &str), u64> = BTreeMap::new();
+    for number in (0..2_400).filter(|&number| families.contains(&family(number))) {
+        for packets in good_packets(&capture(number)) {
+            for what in counted(&packets) {
+                *counts.entry((family(number), what)).or_default() += 1;
+            }
+        }
+    }
+    for ((family, what), count) in &counts {
+        println!("{count:8} {family}: {what}");
+    }
+    for (family, what, floor) in COUNTERS {
+        let count = counts.get(&(family, what)).copied().unwrap_or(0);
+        assert!(count >= floor, "{family}, {what}: {count}");
     }
 }

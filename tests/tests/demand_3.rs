@@ -4,7 +4,9 @@ mod common;
 
 use common::{read, read_with, Got, Station};
 use second::generate::broadcast::{undamaged, Broadcast, Losses};
+use second::generate::holes;
 use second::generate::prng::Prng;
+use second::generate::sender::Sent;
 
 fn got(broadcast: &Broadcast, losses: &Losses) -> Vec<Got> {
     let sent = broadcast.surviving(losses);
@@ -103,6 +105,25 @@ fn losses_remove_exactly_the_units_they_hit() {
         "{removed} units removed, {kept} kept, {bridged} of them over lost slots, {notes} notes"
     );
     assert!(removed > 10_000 && kept > 10_000 && bridged > 500 && notes > 1_000);
+}
+
+/// Also where 256 pieces of a unit are lost, over which its counters fit.
+#[test]
+fn holes_in_long_units() {
+    let mut fared = Fared::default();
+    let (mut long, mut torn) = (0, 0);
+    for seed in 0..200 {
+        let (broadcast, losses) = holes::broadcast(seed);
+        compare(&broadcast, &losses, &mut fared, seed);
+        let is_long = |unit: &&Sent| unit.carriers.len() > 256;
+        let sent = broadcast.units.iter().filter(is_long).count();
+        let left = broadcast.surviving(&losses);
+        let left = left.into_iter().filter(is_long).count();
+        long += left;
+        torn += sent - left;
+    }
+    println!("{long} units of more than 256 pieces kept, {torn} removed");
+    assert!(long > 100 && torn > 200 && fared.notes > 1_000);
 }
 
 #[test]

@@ -49,6 +49,10 @@ fn count_item(counts: &mut Counts, item: &Item, config: &Config) {
     count(counts, "aggregate, 16-bit lengths", aggregate && !wide);
     count(counts, "aggregate, 32-bit lengths", aggregate && wide);
     count(counts, "16,384 bytes", spec.bytes().len() == 16_384);
+    for (indicator, name) in [(1, "first"), (2, "middle")] {
+        let zero = spec.counter == 0 && spec.indicator() == indicator && watched && own;
+        count(counts, format!("{name} piece with counter 0"), zero);
+    }
 }
 
 fn count_unit(counts: &mut Counts, unit: &Sent, r: usize) {
@@ -57,7 +61,10 @@ fn count_unit(counts: &mut Counts, unit: &Sent, r: usize) {
     count(counts, format!("kind {} joined", unit.kind), pieces > 1);
     count(counts, "empty whole unit", pieces == 1 && len == 0);
     count(counts, "empty joined unit", pieces > 1 && len == 0);
-    count(counts, "256 pieces", pieces == 256);
+    for exactly in [256, 257, 513] {
+        count(counts, format!("{exactly} pieces"), pieces == exactly);
+    }
+    count(counts, "more than 256 pieces", pieces > 256);
     count(counts, "joined unit of R", pieces > 1 && len == r);
     let wraps = unit.psn.checked_add(pieces as u32 - 1).is_none();
     count(counts, "psn wraps inside a unit", wraps);

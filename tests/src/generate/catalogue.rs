@@ -4,10 +4,11 @@ use super::boundary;
 use super::broadcast::{self, Losses};
 use super::commands;
 use super::damage;
+use super::holes;
 use super::noise;
 use super::prng::Prng;
 
-pub const FAMILIES: [&str; 11] = [
+pub const FAMILIES: [&str; 12] = [
     "undamaged",
     "slots and frames lost",
     "packets damaged",
@@ -19,6 +20,7 @@ pub const FAMILIES: [&str; 11] = [
     "bytes",
     "boundaries of held bytes",
     "packets cut at every byte",
+    "holes of 256 pieces",
 ];
 
 pub fn family(number: u64) -> &'static str {
@@ -51,6 +53,10 @@ pub fn capture(number: u64) -> Vec<u8> {
         7 => noise::slots(number).concat(),
         8 => noise::bytes(number),
         9 => boundary::held(number / FAMILIES.len() as u64).concat(),
-        _ => boundary::cuts(number).capture(),
+        10 => boundary::cuts(number).capture(),
+        _ => {
+            let (sent, losses) = holes::broadcast(number);
+            sent.commands(&losses).concat()
+        }
     }
 }

@@ -5,6 +5,7 @@ pub mod broadcast;
 pub mod catalogue;
 pub mod commands;
 pub mod damage;
+pub mod holes;
 pub mod layout;
 pub mod noise;
 pub mod packet;

@@ -51,7 +51,7 @@ fn random_piece(rng: &mut Prng, sender: &mut Sender, k: usize, last: &mut Last) 
     last.psn = last.psn.wrapping_add(if rng.chance(19, 20) {
         1
     } else {
-        rng.pick(&[0, 2])
+        rng.pick(&[0, 2, 257, 65_537]) // 256 pieces lost, or 65,536: the counter may still fit
     });
     if !going || rng.chance(1, 20) {
         last.kind = rng.below(5) as u8;
@@ -67,9 +67,9 @@ fn random_piece(rng: &mut Prng, sender: &mut Sender, k: usize, last: &mut Last) 
     };
     last.indicator = match (going, last.counter) {
         _ if rng.chance(1, 10) => rng.below(4) as u8,
-        (true, 0) => 3,
+        (true, 0) => rng.pick(&[2, 3, 3]), // a last piece has 0, but others may have it too
         (true, _) => 2,
-        (false, 0) => 0,
+        (false, 0) => rng.pick(&[0, 1]),
         (false, _) => 1,
     };
     let mut spec = sender.spec(k, last.kind);

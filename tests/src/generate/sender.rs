@@ -167,6 +167,19 @@ impl Sender {
         }
     }
 
+    /// A null packet that ends just with a slot, unless the row does already.
+    pub fn fill_slot(&mut self) {
+        let end = self.edges.partition_point(|&edge| edge < self.len);
+        if self.edges.get(end) == Some(&self.len) {
+            return;
+        }
+        let next = self.edges.partition_point(|&edge| edge < self.len + 4);
+        if let Some(edge) = self.edges.get(next) {
+            let data = self.rng.bytes(edge - self.len - 4);
+            self.raw(0xFF, &data);
+        }
+    }
+
     /// Other TLV types, and packets of another flow, whatever they hold.
     fn other_packet(&mut self) {
         let len = self.rng.range(3, 80);
@@ -316,19 +329,36 @@ impl Sender {
         }
     }
 
-    /// Begins a unit in pieces.
+    /// Begins a unit in pieces: mostly few, now and then more than the counter counts. Of 257 or 513 the
+    /// first one has counter 0.
     fn open(&mut self, k: usize) {
-        let kind = self.rng.below(5) as u8;
-        let count = match self.rng.below(20) {
-            0 => 256,
-            1..=2 => self.rng.range(2, 256),
+        let count = match self.rng.below(40) {
+            0 | 1 => 256,
+            2..=5 => self.rng.range(2, 256),
+            6 => self.rng.pick(&[257, 513]),
+            7 => self.rng.range(258, 600),
             _ => self.rng.range(2, 6),
         };
+        self.begin(k, count);
+        self.piece(k);
+    }
+
+    /// Source `k` has a unit of `count` pieces to send from now on, once it has sent what it has open. Where
+    /// they are very many, they are short.
+    pub fn begin(&mut self, k: usize, count: usize) {
+        while self.sources[k].open.is_some() {
+            self.piece(k);
+        }
+        let kind = self.rng.below(5) as u8;
         let mut left = self.config.joined_max as usize;
         let fill = self.rng.chance(1, 3); // joined bytes of exactly R
         let mut pieces = Vec::with_capacity(count);
         for i in 0..count {
-            let most = self.rng.pick(&[0, 1, 20, 200, 1_400]);
+            let most = if count > 256 {
+                self.rng.pick(&[0, 0, 1, 20])
+            } else {
+                self.rng.pick(&[0, 1, 20, 200, 1_400])
+            };
             let len = if fill && i + 1 == count && left < 8_000 {
                 left
             } else {
@@ -341,7 +371,18 @@ impl Sender {
         let sent = self.unit(k, kind, len);
         let from = 0;
         self.sources[k].open = Some(Open { sent, pieces, from });
-        self.piece(k);
+    }
+
+    /// Sends `count` pieces of source `k`'s open unit, and packets of others between them.
+    pub fn pieces(&mut self, k: usize, count: usize) {
+        for _ in 0..count {
+            self.sources[k].quiet_until = usize::MAX;
+            while self.rng.chance(1, 12) {
+                self.step();
+            }
+            self.piece(k);
+        }
+        self.sources[k].quiet_until = 0;
     }
 
     /// Sends the open unit's next piece.

@@ -215,6 +215,11 @@ fn packets_cut_at_every_byte() {
 }
 
 #[test]
+fn holes_of_256_pieces() {
+    reaches_memories(11);
+}
+
+#[test]
 fn memories_too_short() {
     let mut compared = Compared::default();
     let mut seen = 0;
