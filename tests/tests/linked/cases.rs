@@ -6,7 +6,7 @@ use second::generate::commands::start;
 use second::generate::prng::Prng;
 use second::generate::sender::Config;
 
-use super::common::{block, cut_padded, flow, mmtp, mpu, signalling, tlv};
+use super::common::{block, bytes_of, cut_padded, flow, in_pieces, mmtp, mpu, signalling, tlv};
 use super::library::{NOTHING, RECORD};
 use super::pair::Pair;
 use super::records::{Command, Record};
@@ -18,6 +18,9 @@ const SIGNALLING: u64 = PAYLOAD + 2;
 const MPU: u64 = PAYLOAD + 8;
 /// Movie fragment number 1, sample 2, offset 3, priority 4, dependency 5.
 const FIELDS: [u8; 14] = [0, 0, 0, 1, 0, 0, 0, 2, 0, 0, 0, 3, 4, 5];
+
+/// No record.
+const SILENT: [Record; 0] = [];
 
 /// Both receivers for stream 1, CID 5, packet_ids 7 and 9, R 100.
 fn pair() -> Pair {
@@ -155,6 +158,53 @@ fn joined_units() {
     assert_eq!(records(&exact), [words(&[2, 0, 1, 0, 100, 7, 4, 1])]);
 }
 
+/// A signalling unit of packet_id 9 in so many pieces, from psn 5 on.
+fn long(count: usize) -> Vec<Vec<u8>> {
+    in_pieces(count, 5, |psn, indicator, counter, bytes| {
+        signalling(9, psn, indicator, counter, bytes)
+    })
+}
+
+/// The counter runs modulo 256: the first piece of 257 or 513 has 0, and so have middle ones of more.
+#[test]
+fn units_of_many_pieces() {
+    for count in [256, 257, 258, 300, 513, 600] {
+        let len = bytes_of(0..count).len() as u64;
+        let due = words(&[2, 0, 1, 100, len, 9, 4, 5]);
+        assert_eq!(records(&long(count)), [due], "{count} pieces");
+    }
+}
+
+/// Wherever 256 pieces of 600 are lost, the counters fit over the hole. The unit behind it comes.
+#[test]
+fn holes_of_256_pieces() {
+    for from in [1, 2, 43, 44, 87, 88, 89, 200, 342, 343] {
+        let mut left = long(600);
+        left.drain(from..from + 256);
+        left.push(signalling(9, 605, 0, 0, b"next"));
+        let shown = records(&left);
+        let [hole, next] = shown[..] else {
+            panic!("{shown:?}");
+        };
+        assert_eq!(hole, note(60, 9), "{from}");
+        assert_eq!((next[0], &next[4..8]), (2, &[4, 9, 4, 605][..]), "{from}");
+    }
+}
+
+#[test]
+fn counters_that_do_not_fit() {
+    let piece = |psn, indicator, counter| signalling(9, psn, indicator, counter, b"");
+    let after =
+        |open, indicator, counter| records(&[piece(1, 1, open), piece(2, indicator, counter)]);
+    assert_eq!(after(0, 2, 255), SILENT);
+    assert_eq!(after(1, 2, 0), SILENT);
+    for (open, indicator, counter) in [(0, 3, 0), (0, 2, 0), (0, 2, 1), (0, 2, 254), (1, 2, 255)] {
+        let shown = after(open, indicator, counter);
+        assert_eq!(shown, [note(63, 9)], "{open}, then {counter}");
+    }
+    assert_eq!(after(2, 3, 1), [note(52, 9)]);
+}
+
 #[test]
 fn notes_of_packets_and_joining() {
     assert_eq!(records(&[tlv(3, &[0, 0x50])]), [note(50, 0)]);
@@ -185,7 +235,6 @@ fn notes_of_packets_and_joining() {
 #[test]
 fn notes_of_slots() {
     let full = tlv(0xFF, &[0; 1_866]);
-    const SILENT: [Record; 0] = [];
     let mut pair = pair();
     assert_eq!(give(&mut pair, None, 0, 0), SILENT);
     assert_eq!(give(&mut pair, Some(&full), 0, 1_870), SILENT);

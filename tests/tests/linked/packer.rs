@@ -8,6 +8,8 @@ use super::library::{self, RECORD, UNIT};
 use super::records::Record;
 
 const COUNT: u64 = 5_000;
+/// The most pieces that a unit is packed in.
+const MOST: usize = 65_535;
 
 /// What a unit carries; an item id is a field of its own here.
 #[derive(Clone, Copy, Debug)]
@@ -76,16 +78,21 @@ fn unit(rng: &mut Prng) -> Unit {
     }
 }
 
-/// Bytes of a piece size of `m`: none, around whole pieces, up to 256 of them.
-fn len(rng: &mut Prng, m: usize) -> usize {
-    let pieces = rng.pick(&[0, 1, 1, 2, 3, 20, 255, 256]);
+/// A piece size, and bytes of a unit: none, around whole pieces, up to 601 of them. Very many are short.
+fn sizes(rng: &mut Prng) -> (usize, usize) {
+    let any = rng.range(1, MAX_PIECE);
+    let m = rng.pick(&[1, 2, 3, 100, 1_399, MAX_PIECE, any]);
+    let many = rng.range(257, 600);
+    let pieces = rng.pick(&[0, 1, 1, 2, 3, 20, 255, 256, many]);
+    let m = if pieces > 256 { m.min(100) } else { m };
     let whole = m * pieces;
-    match rng.below(4) {
+    let len = match rng.below(4) {
         0 => whole,
         1 => whole.saturating_sub(1),
-        2 => (whole + 1).min(256 * m),
+        2 => whole + 1,
         _ => rng.below(whole + 1),
-    }
+    };
+    (m, len)
 }
 
 /// The length of the packets of `len` bytes in pieces of `m`.
@@ -98,9 +105,7 @@ fn written(kind: u8, len: usize, m: usize) -> usize {
 /// A call that is accepted.
 fn legal(rng: &mut Prng) -> Call {
     let unit = unit(rng);
-    let any = rng.range(1, MAX_PIECE);
-    let m = rng.pick(&[1, 2, 3, 100, 1_399, MAX_PIECE, any]);
-    let len = len(rng, m);
+    let (m, len) = sizes(rng);
     let room = written(unit.kind, len, m) + rng.pick(&[0, 0, 1, 500]);
     let cid = rng.u16() & 0xFFF;
     Call {
@@ -122,9 +127,9 @@ fn spoil(rng: &mut Prng, call: &mut Call) {
         call.unit.kind = rng.pick(&[5, 6, 8, 0x80, 0xFF]);
     }
     if rng.chance(1, 3) {
-        call.m = call.m.min(100);
+        call.m = call.m.min(3);
         let more = rng.pick(&[1, 1, 2, 1_000]);
-        call.bytes = rng.bytes(256 * call.m + more);
+        call.bytes = vec![7; MOST * call.m + more];
     }
     if rng.chance(1, 3) {
         let short = rng.range(1, call.output.len().max(1));
@@ -193,29 +198,58 @@ fn of_bytes(rng: &mut Prng, m: usize, bytes: &[u8]) -> Call {
     }
 }
 
-/// Each count of pieces up to 257, the last piece whole, one byte short of it and one byte alone.
+/// Each count of pieces up to 600, or 260 long ones: the last piece whole, one byte short of it, or one byte
+/// alone behind it.
 #[test]
 fn every_count_of_pieces() {
     let mut rng = Prng::new(3);
-    for m in [1, 2, 7, 188, MAX_PIECE] {
-        let bytes = rng.bytes(257 * m + 1);
-        for pieces in 1..=257 {
+    for (m, most) in [(1, 600), (2, 600), (7, 600), (188, 600), (MAX_PIECE, 260)] {
+        let bytes = rng.bytes(most * m + 1);
+        for pieces in 1..=most {
             for len in [m * pieces - 1, m * pieces, m * pieces + 1] {
-                let refusal = if len > 256 * m { 72 } else { 0 };
-                assert_eq!(compare(&of_bytes(&mut rng, m, &bytes[..len])), refusal);
+                assert_eq!(compare(&of_bytes(&mut rng, m, &bytes[..len])), 0);
             }
         }
     }
 }
 
-/// The count stops above 256 pieces, so these are refused at once.
+/// Around the most pieces: each number of bytes from two pieces below it to one above.
 #[test]
-fn units_of_very_many_pieces() {
-    let bytes = vec![7; 1 << 26];
-    let mut rng = Prng::new(4);
+fn the_most_pieces() {
+    let mut rng = Prng::new(6);
+    for m in [1, 2, 7, 16] {
+        let bytes = rng.bytes((MOST + 1) * m);
+        for len in (MOST - 2) * m..=(MOST + 1) * m {
+            let refusal = if len > MOST * m { 72 } else { 0 };
+            assert_eq!(compare(&of_bytes(&mut rng, m, &bytes[..len])), refusal);
+        }
+    }
+}
+
+/// 72 before 73 and 74, and 73 for the most pieces.
+#[test]
+fn too_many_pieces_for_a_short_output() {
+    let mut rng = Prng::new(7);
     for m in [1, 2, 1_399, MAX_PIECE] {
         let mut call = of_bytes(&mut rng, m, &[]);
-        call.bytes.clone_from(&bytes);
+        call.bytes = vec![0; MOST * m + 1];
+        for cid in [5, 4_096] {
+            call.cid = cid;
+            assert_eq!(compare(&call), 72);
+        }
+        call.bytes.pop();
+        assert_eq!(compare(&call), 73);
+    }
+}
+
+/// The count stops above 65,535 pieces, so these are refused soon.
+#[test]
+fn units_of_very_many_pieces() {
+    let mut rng = Prng::new(4);
+    let mut call = of_bytes(&mut rng, 1, &[]);
+    call.bytes = vec![0; 1 << 27];
+    for m in [1, 2, 1_399, MAX_PIECE] {
+        call.m = m;
         assert_eq!(compare(&call), 72);
     }
 }
