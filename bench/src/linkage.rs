@@ -44,6 +44,19 @@ extern "C" {
         count: &mut u64,
     ) -> u8;
 
+    fn ixohuemil_pack(
+        unit: *const u64,
+        unit_words: usize,
+        cid: u16,
+        sn: u8,
+        m: usize,
+        bytes: *const u8,
+        bytes_len: usize,
+        output: *mut u8,
+        output_len: usize,
+        len: &mut u64,
+    ) -> u8;
+
     fn ixohuemil_text(
         capture: *const u8,
         capture_len: usize,
@@ -134,6 +147,37 @@ pub fn events(
     };
     match refusal {
         0 => Ok(count as usize),
+        number => Err(number),
+    }
+}
+
+/// How many bytes of packets the unit of a record comes to in pieces of `m`, or the refusal.
+pub fn pack(
+    unit: &[u64],
+    cid: u16,
+    sn: u8,
+    m: usize,
+    bytes: &[u8],
+    output: &mut [u8],
+) -> Result<usize, u8> {
+    let mut len = 0;
+    // SAFETY: as above.
+    let refusal = unsafe {
+        ixohuemil_pack(
+            unit.as_ptr(),
+            unit.len(),
+            cid,
+            sn,
+            m,
+            bytes.as_ptr(),
+            bytes.len(),
+            output.as_mut_ptr(),
+            output.len(),
+            &mut len,
+        )
+    };
+    match refusal {
+        0 => Ok(len as usize),
         number => Err(number),
     }
 }

@@ -1,5 +1,5 @@
 //! Measures the proved decoder beside the second one and beside a plain copy: as whole processes and in
-//! memory, on three captures, as lines and call by call; and what a command without data costs.
+//! memory, on three captures, as lines and call by call; what a command without data costs, and packing.
 //!
 //! `bench [FRAMES [ROUNDS [PROGRAM]]]`. PROGRAM is the capture program, else TLV_CAPTURE names it.
 
@@ -10,6 +10,7 @@ mod commands;
 mod decoders;
 mod linkage;
 mod memory;
+mod packing;
 mod processes;
 mod table;
 
@@ -39,6 +40,10 @@ commands in memory, takes the events of each, and adds up the bytes of every uni
 const COMMANDS: &str = "
 Commands without data: nanoseconds of processor time for each, in memory. F is taken away from the frames
 that L and S come in.";
+const PACKING: &str = "
+Packing: nanoseconds of processor time for each piece of a unit of kind 2, from memory to memory. A round
+packs about as many pieces in each row, so a unit of few is packed again and again. Plain copy: the packets
+to memory of the same length. The last row has a whole call, refused once the pieces are counted.";
 
 /// How much is measured, and which program.
 struct Settings {
@@ -125,7 +130,9 @@ fn measure(settings: &Settings) -> Result<(), Box<dyn Error>> {
     print(MEMORY, &rows, |row| &row.memory);
     print(CALLS, &rows, |row| &row.calls);
     println!("{COMMANDS}\n");
-    commands::measure(rounds)
+    commands::measure(rounds)?;
+    println!("{PACKING}\n");
+    packing::measure(rounds)
 }
 
 /// A table of speeds, and what they mean.
