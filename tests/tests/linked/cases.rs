@@ -175,6 +175,16 @@ fn units_of_many_pieces() {
     }
 }
 
+/// More pieces than a packer sends, all empty but the ends.
+#[test]
+fn a_unit_of_very_many_pieces() {
+    let packets = in_pieces(257 * 256 + 1, 5, |psn, indicator, counter, _| {
+        let bytes: &[u8] = if indicator == 2 { b"" } else { b"a" };
+        signalling(9, psn, indicator, counter, bytes)
+    });
+    assert_eq!(records(&packets), [words(&[2, 0, 1, 100, 2, 9, 4, 5])]);
+}
+
 /// Wherever 256 pieces of 600 are lost, the counters fit over the hole. The unit behind it comes.
 #[test]
 fn holes_of_256_pieces() {
