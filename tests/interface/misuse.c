@@ -57,8 +57,9 @@ static uint8_t show(size_t event_words, size_t output_bytes) {
     return ixohuemil_show(packet.bytes, packet.length, collecting.bytes, collecting.length, the_event(), event_words, output.bytes,
                           output_bytes, &length);
 }
-/* A unit that no slot has room for stands in memory that nobody may write. */
-static const uint8_t long_unit[65536];
+/* A unit of one piece too many, at a byte each; it stands in memory that nobody may write. */
+#define TOO_MANY (IXOHUEMIL_MOST_PIECES + 1)
+static const uint8_t long_unit[TOO_MANY];
 static uint8_t pack(size_t unit_words, uint16_t cid, size_t m, size_t bytes, size_t output_bytes) {
     const uint8_t *unit = bytes > data.length ? long_unit : data.bytes;
     return ixohuemil_pack(the_event(), unit_words, cid, 0, m, unit, bytes, output.bytes, output_bytes, &length);
@@ -177,12 +178,12 @@ static void wrong_sending(void) {
     static const uint64_t no_unit[] = {0, 1, 3, 258, UINT64_MAX};
     for (int k = 0; k < 5; k++) the_event()->what = no_unit[k], REFUSED(92, pack(EVENT, 2, 1400, 2, OUTPUT));
     the_event()->what = IXOHUEMIL_UNIT, the_event()->kind = 5;
-    REFUSED(70, pack(EVENT, 4096, 0, 65536, 0));
+    REFUSED(70, pack(EVENT, 4096, 0, TOO_MANY, 0));
     REFUSED(70, pack(EVENT, 2, 1401, 2, OUTPUT));
-    REFUSED(71, pack(EVENT, 4096, 1, 65536, 0));
+    REFUSED(71, pack(EVENT, 4096, 1, TOO_MANY, 0));
     the_event()->kind = IXOHUEMIL_SIGNALLING;
-    REFUSED(72, pack(EVENT, 4096, 1, 65536, 0));
-    REFUSED(73, pack(EVENT, 4096, 1, 65535, OUTPUT));
+    REFUSED(72, pack(EVENT, 4096, 1, TOO_MANY, 0));
+    REFUSED(73, pack(EVENT, 4096, 1, IXOHUEMIL_MOST_PIECES, OUTPUT));
     REFUSED(73, pack(EVENT, 4096, 1400, 2, 22));
     REFUSED(74, pack(EVENT, 4096, 1400, 2, 23));
     ACCEPTED(pack(EVENT, 2, 1400, 2, 23));
