@@ -1,7 +1,7 @@
 // The watch list: which packet_ids are watched, and the place of each.
 ghost use mathlib.Core.Path.{_≡_};
 ghost use Prim.Native.Nat.{_<_};
-ghost use Rattle.mmtp.specs.Watch.{lookupOf};
+ghost use Rattle.watch.specs.Given.{lookupOf};
 
 // The first `n` of `ids`, at most 16, are watched.
 pub struct Watch {

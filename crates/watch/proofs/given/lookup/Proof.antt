@@ -2,9 +2,9 @@
 use Prim.Native.Nat.{_≤_}
 use mathlib.Core.Path.{_≡_, sym}
 use native.Mathlib.Omega.{arith}
-use Rattle.mmtp.specs.Watch.{Lowest, lowest-end, lowest-hit, lowest-on, lookup-lowest, lookup-missing}
-use Rattle.mmtp.proofs.watch.lookup.Statement.{statement}
-use Rattle.mmtp.proofs.watch.lookup.Tie as tie
+use Rattle.watch.specs.Given.{Lowest, lowest-end, lowest-hit, lowest-on, lookup-lowest, lookup-missing}
+use Rattle.watch.proofs.given.lookup.Statement.{statement}
+use Rattle.watch.proofs.given.lookup.Tie as tie
 
 abbrev Inv-loop : tie.InvT-loop
 Inv-loop id n ids place₀ k₀ place k = (k ≤ 16) × Lowest ids id k 16 place

@@ -7,9 +7,9 @@ use native.Mathlib.Omega.{arith}
 use borrow.Author.Tests.{ne-eqb, eqb-true, eqb-false}
 use lib.ListN.{getD}
 use lib.Dec.{eqb}
-use Rattle.mmtp.specs.declared.watch.Watch.{Watch}
-use Rattle.mmtp.specs.declared.watch.Found.{Found}
-use Rattle.mmtp.specs.declared.watch.Found.the-variants.{At, Nothing}
+use Rattle.watch.specs.declared.given.Watch.{Watch}
+use Rattle.watch.specs.declared.given.Found.{Found}
+use Rattle.watch.specs.declared.given.Found.the-variants.{At, Nothing}
 
 -- the first of the m places from k on that has the id
 unfoldable pub firstFrom : List ℕ → ℕ → ℕ → ℕ → Found
