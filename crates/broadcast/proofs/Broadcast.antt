@@ -46,7 +46,7 @@ use Rattle.tlv.specs.Run.{
 use Rattle.tlv.specs.Row.{allBytes, row, packetsBy, rowPackets}
 use Rattle.mmtp.specs.Flow.{flowOf, compressedOf, behind, compressedHeader}
 use Rattle.mmtp.specs.Header.{headerOf, plain, payloadStart, fixedBytes, extensionBytes, extensionLength}
-use Rattle.mmtp.specs.Watch.{lookupOf, firstFrom}
+use Rattle.watch.specs.Given.{lookupOf, firstFrom}
 use Rattle.mmtp.specs.Packet.{readingOf, headRead, lookedUp, bodyRead}
 use Rattle.mmtp.specs.Payload.{
   indicatorOf,

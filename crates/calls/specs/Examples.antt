@@ -8,7 +8,7 @@ use Rattle.wire.specs.Memory.{partOf, pasted}
 use Rattle.wire.specs.Tab.{tab}
 use Rattle.wire.specs.Words.{putFrom}
 use Rattle.tmcc.specs.Layout.{blankLayout}
-use Rattle.mmtp.specs.Watch.{firstFrom, lookupOf}
+use Rattle.watch.specs.Given.{firstFrom, lookupOf}
 use Rattle.reassembly.specs.Channel.{unheard}
 use Rattle.words.specs.Channel.{readIds, readConfig, readFields, readUnit, fieldWords, unitWords}
 use Rattle.intake.specs.Slot.{noted}

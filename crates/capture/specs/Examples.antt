@@ -8,7 +8,7 @@ use Rattle.wire.specs.Tab.{tab}
 use Rattle.tmcc.specs.Count.{allBelow, countBelow, lastBelow}
 use Rattle.tmcc.specs.Mode.{dataBytes, within, used, unused, modeGood, slotsOf, modesGood}
 use Rattle.tmcc.specs.Block.{decodeOf}
-use Rattle.mmtp.specs.Watch.{firstFrom, lookupOf}
+use Rattle.watch.specs.Given.{firstFrom, lookupOf}
 use Rattle.reassembly.specs.Channel.{unheard}
 use Rattle.intake.specs.Slot.{lostOf}
 use Rattle.delivery.specs.Cursor.{left}

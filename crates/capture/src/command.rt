@@ -3,7 +3,7 @@ ghost use mathlib.Core.Path.{_≡_};
 ghost use Prim.Native.Nat.{_≤_, _<_};
 ghost use lib.ListN.{length};
 ghost use Rattle.capture.specs.Command.{longestCommand, letterOf, slotSize, sizeOf, idsOf, configOf};
-use mmtp::watch::Watch;
+use watch::given::Watch;
 use reassembly::config::Config;
 use reassembly::config::Rules;
 use wire::field;

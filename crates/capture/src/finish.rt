@@ -7,7 +7,7 @@ use crate::session::Phase;
 use crate::session::Session;
 use crate::session::Tally;
 use lines::line::put_end;
-use mmtp::watch::Watch;
+use watch::given::Watch;
 use reassembly::config::Config;
 use reassembly::config::Rules;
 use state::places::STATE_WORDS;

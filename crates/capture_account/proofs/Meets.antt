@@ -13,7 +13,7 @@ use Rattle.tlv.specs.Run.{Arrival, searching}
 use Rattle.reassembly.specs.declared.config.Config.{Config}
 use Rattle.reassembly.specs.Run.{Content, fresh}
 use Rattle.state.specs.Start.{before, twiceBelow, twice, freshState, startRefusal, startFrom}
-use Rattle.mmtp.specs.Watch.{lookupOf, firstFrom}
+use Rattle.watch.specs.Given.{lookupOf, firstFrom}
 use Rattle.capture.specs.Command.{letterOf, sizeOf, whole, idsOf, configOf}
 use Rattle.broadcast.specs.Account.{account}
 use Rattle.broadcast.specs.Drains.{strip}

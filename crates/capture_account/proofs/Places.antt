@@ -13,7 +13,7 @@ use Rattle.tlv.specs.Held.{endWithin, endBeyond, heldTotal, heldEnd, continuati
 use Rattle.tlv.specs.Run.{searching, kept, readFrom, finished, resumed, arrived, step as slot-step, run, stateAfter}
 use Rattle.mmtp.specs.Flow.{flowOf, compressedOf, behind, compressedHeader}
 use Rattle.mmtp.specs.Header.{headerOf, plain, payloadStart, fixedBytes, extensionBytes, extensionLength}
-use Rattle.mmtp.specs.Watch.{lookupOf, firstFrom}
+use Rattle.watch.specs.Given.{lookupOf, firstFrom}
 use Rattle.mmtp.specs.Packet.{readingOf, headRead, lookedUp, bodyRead}
 use Rattle.mmtp.specs.Payload.{indicatorOf, fragmentTypeOf, mpuOf, signallingOf, parsedOf, counterFits, aggregationFits, unitsFit, tested, payloadOf, piecesOf}
 use Rattle.mmtp.specs.Unit.{fieldBytes, fieldsOf, pieceOf, singleFits}

@@ -12,12 +12,12 @@ use Rattle.mmtp.specs.declared.payload.Indicator.{Indicator}
 use Rattle.mmtp.specs.declared.payload.Indicator.the-variants.{Whole}
 use Rattle.mmtp.specs.Notes.{numberOf}
 use Rattle.reassembly.specs.declared.channel.Channel.{Channel}
-use Rattle.reassembly.specs.declared.config.Config.{Config}
 use Rattle.reassembly.specs.declared.config.Rules.{Rules}
 use Rattle.reassembly.specs.declared.join.Joined.{Joined}
 use Rattle.reassembly.specs.declared.join.Piece.{Piece}
 use Rattle.reassembly.specs.Channel.{gap}
 use Rattle.reassembly.specs.Join.{joinOf, acted}
+use Rattle.words.specs.Config.{KeptConfig}
 use Rattle.words.specs.Channel.{
   phaseWord,
   readChannel,
@@ -120,7 +120,7 @@ module _ (t u v w : List ℕ) (i k : ℕ) (l : Located) (p c d : List ℕ) (rule
   joins-by m x j a b e f y s r = joins (rw (a, b, e) at f) (rw e at y) (rw e at s) (rw (b, e) at r)
 
 -- a TLV packet: silent, noted, or joined
-module _ (config : Config) (t : List ℕ) (i k : ℕ) (p c : List ℕ) (start end : ℕ) where
+module _ (config : KeptConfig) (t : List ℕ) (i k : ℕ) (p c : List ℕ) (start end : ℕ) where
   pub receives-silent : arrivedAt config p start end ≡ Silent → Receives config t i k p c start end t c
   unfolding receivedOf
   receives-silent a =

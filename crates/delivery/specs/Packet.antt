@@ -1,10 +1,12 @@
 -- A TLV packet in packet memory: read, and joined to the state of its packet_id over collecting memory.
 use Prim.Native.Nat.{ℕ, _+_, _-_, _*_, _≤_, _<_}
 use mathlib.Core.Bool.{Bool, true, false, cond}
-use mathlib.Core.Path.{_≡_, ap}
+use mathlib.Core.Path.{_≡_, refl, ap}
 use mathlib.Core.List.{List}
 use lib.ListN.{drop}
 use Rattle.wire.specs.Memory.{partOf, pasted}
+use Rattle.watch.specs.declared.given.Found.{Found}
+use Rattle.watch.specs.Rising.{searchOf}
 use Rattle.mmtp.specs.declared.flow.Flow.{Flow}
 use Rattle.mmtp.specs.declared.flow.Flow.the-variants.{Silent as OtherFlow, Noted as NotedFlow, Mmtp}
 use Rattle.mmtp.specs.declared.packet.Packet.{Packet}
@@ -17,10 +19,9 @@ use Rattle.mmtp.specs.declared.payload.Payload.{Payload}
 use Rattle.mmtp.specs.declared.note.PacketNote.{PacketNote}
 use Rattle.mmtp.specs.Notes.{numberOf}
 use Rattle.mmtp.specs.Flow.{flowOf}
-use Rattle.mmtp.specs.Packet.{readingOf}
+use Rattle.mmtp.specs.Packet.{readingOf, reading-same}
 use Rattle.mmtp.specs.Unit.{noFields, singleAt}
 use Rattle.reassembly.specs.declared.config.Rules.{Rules}
-use Rattle.reassembly.specs.declared.config.Config.{Config}
 use Rattle.reassembly.specs.declared.channel.Channel.{Channel}
 use Rattle.reassembly.specs.declared.join.Piece.{Piece}
 use Rattle.reassembly.specs.declared.join.Joined.{Joined}
@@ -28,6 +29,7 @@ use Rattle.reassembly.specs.declared.join.Action.{Action}
 use Rattle.reassembly.specs.declared.join.Action.the-variants.{Nothing as NoAction, Whole, Store, Complete}
 use Rattle.reassembly.specs.Unit.{carried}
 use Rattle.reassembly.specs.Join.{joinOf}
+use Rattle.words.specs.Config.{KeptConfig}
 use Rattle.queue.specs.declared.event.Memory.the-variants.{Collecting}
 use Rattle.queue.specs.declared.event.Given.{Given}
 use Rattle.queue.specs.Waiting.{Give, Nothing, One, Many, Queue}
@@ -42,14 +44,18 @@ readBy Unwatched start end = Silent
 readBy (NotedPacket n id) start end = Noted n id
 readBy (GoodPacket p) start end = Good (record { packet = p; start = start; end = end })
 
-abbrev pub flowBy : Flow → Config → List ℕ → ℕ → ℕ → Arrived
-flowBy OtherFlow c b start end = Silent
-flowBy (NotedFlow n) c b start end = Noted n 0
-flowBy (Mmtp n) c b start end = readBy (readingOf (drop n b) (c .watch)) (start + n) end
+abbrev pub flowBy : Flow → (ℕ → Found) → List ℕ → ℕ → ℕ → Arrived
+flowBy OtherFlow look b start end = Silent
+flowBy (NotedFlow n) look b start end = Noted n 0
+flowBy (Mmtp n) look b start end = readBy (readingOf (drop n b) look) (start + n) end
 
--- the TLV packet that stands from `start` to `end` in packet memory
-unfoldable pub arrivedAt : Config → List ℕ → ℕ → ℕ → Arrived
-arrivedAt c p start end = let b = partOf p start (end - start) in flowBy (flowOf b (c .cid)) c b start end
+-- the TLV packet that stands from `start` to `end` in packet memory, by the CID and the search in the watch list
+unfoldable pub comesTo : ℕ → (ℕ → Found) → List ℕ → ℕ → ℕ → Arrived
+comesTo cid look p start end = let b = partOf p start (end - start) in flowBy (flowOf b cid) look b start end
+
+-- the same by what start keeps: the search is over the list in rising order
+abbrev pub arrivedAt : KeptConfig → List ℕ → ℕ → ℕ → Arrived
+arrivedAt c p start end = comesTo (c .cid) (searchOf (c .watch)) p start end
 
 -- the bytes of an MMTP packet
 abbrev pub bytesAt : Located → List ℕ → List ℕ
@@ -176,20 +182,30 @@ receivedOf (Good l) ch q p c rules = joinedOf ch l p c rules
 -- Laws.
 
 -- a TLV packet, by its flow
-module _ (c : Config) (p : List ℕ) (start end : ℕ) where
-  pub arrived-silent : flowOf (partOf p start (end - start)) (c .cid) ≡ OtherFlow → arrivedAt c p start end ≡ Silent
-  unfolding arrivedAt
+module _ (cid : ℕ) (look : ℕ → Found) (p : List ℕ) (start end : ℕ) where
+  pub arrived-silent : flowOf (partOf p start (end - start)) cid ≡ OtherFlow → comesTo cid look p start end ≡ Silent
+  unfolding comesTo
   arrived-silent e = rw e
 
-  pub arrived-noted : (n : PacketNote) → flowOf (partOf p start (end - start)) (c .cid) ≡ NotedFlow n
-      → arrivedAt c p start end ≡ Noted n 0
-  unfolding arrivedAt
+  pub arrived-noted : (n : PacketNote) → flowOf (partOf p start (end - start)) cid ≡ NotedFlow n → comesTo cid look p start end ≡ Noted n 0
+  unfolding comesTo
   arrived-noted n e = rw e
 
-  pub arrived-mmtp : (n : ℕ) → flowOf (partOf p start (end - start)) (c .cid) ≡ Mmtp n
-      → arrivedAt c p start end ≡ readBy (readingOf (drop n (partOf p start (end - start))) (c .watch)) (start + n) end
-  unfolding arrivedAt
+  pub arrived-mmtp : (n : ℕ) → flowOf (partOf p start (end - start)) cid ≡ Mmtp n
+      → comesTo cid look p start end ≡ readBy (readingOf (drop n (partOf p start (end - start))) look) (start + n) end
+  unfolding comesTo
   arrived-mmtp n e = rw e
+
+-- two searches that answer alike
+pub arrived-same : (cid : ℕ) (look other : ℕ → Found) (p : List ℕ) (start end : ℕ) → ((id : ℕ) → look id ≡ other id)
+    → comesTo cid look p start end ≡ comesTo cid other p start end
+unfolding comesTo
+arrived-same cid look other p start end e = go (flowOf (partOf p start (end - start)) cid)
+  where
+    go : (f : Flow) → flowBy f look (partOf p start (end - start)) start end ≡ flowBy f other (partOf p start (end - start)) start end
+    go OtherFlow = refl
+    go (NotedFlow n) = refl
+    go (Mmtp n) = rw (reading-same (drop n (partOf p start (end - start))) look other e)
 
 -- a packet is joined by its step
 pub joined-by : (ch : Channel) (l : Located) (p c : List ℕ) (rules : Rules) (j : Joined) → stepOf ch l p rules ≡ j

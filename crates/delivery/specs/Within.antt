@@ -6,9 +6,11 @@ use mathlib.Core.List.{List}
 use native.Mathlib.Omega.{arith}
 use native.Mathlib.Nat.{mul-le-mul-right, suc-mul}
 use borrow.Author.Tests.{ltb-false}
-use lib.ListN.{length, getD, drop, length-drop}
+use lib.ListN.{length, drop, length-drop}
 use lib.Dec.{ltb}
 use Rattle.wire.specs.Memory.{partOf, length-pasted}
+use Rattle.watch.specs.Rising.{searchOf}
+use Rattle.watch.specs.Order.{search-at}
 use Rattle.mmtp.specs.declared.flow.Flow.{Flow}
 use Rattle.mmtp.specs.declared.flow.Flow.the-variants.{Silent as OtherFlow, Noted as NotedFlow, Mmtp}
 use Rattle.mmtp.specs.declared.packet.Reading.{Reading}
@@ -22,7 +24,6 @@ use Rattle.mmtp.specs.Flow.{flowOf}
 use Rattle.mmtp.specs.Packet.{readingOf, packet-place}
 use Rattle.mmtp.specs.Unit.{singleAt, singleUnit, singleFits, single-next, Inside}
 use Rattle.reassembly.specs.declared.config.Rules.{Rules}
-use Rattle.reassembly.specs.declared.config.Config.{Config}
 use Rattle.reassembly.specs.declared.channel.Channel.{Channel}
 use Rattle.reassembly.specs.declared.channel.Phase.{Phase}
 use Rattle.reassembly.specs.declared.channel.Phase.the-variants.{Unheard, Waiting, Idle, Open}
@@ -46,11 +47,12 @@ use Rattle.reassembly.specs.Join.{
   counterFollows,
 }
 use Rattle.wire.specs.Choice.{by-test}
+use Rattle.words.specs.Config.{KeptConfig}
 use Rattle.queue.specs.Waiting.{Queue}
 use Rattle.queue.specs.declared.located.Located.{Located}
 use Rattle.delivery.specs.declared.packet.Arrived.{Arrived}
 use Rattle.delivery.specs.declared.packet.Arrived.the-variants.{Silent, Noted, Good}
-use Rattle.delivery.specs.Packet.{readBy, flowBy, arrivedAt, firstUnit, unitOr, blankUnit, Room, Reach, placeOf, Fits, Unit₀, collected, bytesAt, unitIn, baseOf, stepOf, pieceFrom, joinedOf, receivedOf}
+use Rattle.delivery.specs.Packet.{readBy, flowBy, comesTo, arrivedAt, firstUnit, unitOr, blankUnit, Room, Reach, placeOf, Fits, Unit₀, collected, bytesAt, unitIn, baseOf, stepOf, pieceFrom, joinedOf, receivedOf}
 use Rattle.queue.specs.Located.{unitLen}
 
 single-inside : (m : List ℕ) (at kind : ℕ) (b : Bool) → singleFits m at kind ≡ b
@@ -68,28 +70,27 @@ unfolding firstUnit
 first-inside m y = first-by m y (y .aggregated)
 
 -- a packet that is read has a place in the watch list
-pub record Watched (c : Config) (l : Located) : Type 0 where
+pub record Watched (c : KeptConfig) (l : Located) : Type 0 where
   pub low : l .packet .place < 16
   pub listed : l .packet .place < c .watch .n
-  pub id : getD (c .watch .ids) (l .packet .place) 0 ≡ l .packet .«packet_id»
 
-module _ (c : Config) (p : List ℕ) (start end : ℕ) where
-  reading-place : (b : List ℕ) (r : Reading) (from : ℕ) (l : Located) → readingOf b (c .watch) ≡ r → readBy r from end ≡ Good l
-      → Watched c l
+module _ (c : KeptConfig) (p : List ℕ) (start end : ℕ) where
+  reading-place : (b : List ℕ) (r : Reading) (from : ℕ) (l : Located) → readingOf b (searchOf (c .watch)) ≡ r
+      → readBy r from end ≡ Good l → Watched c l
   reading-place b Unwatched from l e q = let z : _≡_ {A = ℕ} 0 1 = cc in absurd (omega arith)
   reading-place b (NotedPacket n id) from l e q = let z : _≡_ {A = ℕ} 0 1 = cc in absurd (omega arith)
   reading-place b (GoodPacket k) from l e q =
       let r : record { packet = k; start = from; end = end } ≡ l = cc in
-      let w = packet-place b (c .watch) k e in
-      rw (← r) (record { low = w .0; listed = w .1; id = w .2 })
+      let w = search-at (c .watch) (k .«packet_id») (k .place) (packet-place b (searchOf (c .watch)) k e) in
+      rw (← r) (record { low = w .0; listed = w .1 })
 
-  flow-place : (b : List ℕ) (f : Flow) (l : Located) → flowBy f c b start end ≡ Good l → Watched c l
+  flow-place : (b : List ℕ) (f : Flow) (l : Located) → flowBy f (searchOf (c .watch)) b start end ≡ Good l → Watched c l
   flow-place b OtherFlow l q = let z : _≡_ {A = ℕ} 0 1 = cc in absurd (omega arith)
   flow-place b (NotedFlow n) l q = let z : _≡_ {A = ℕ} 0 1 = cc in absurd (omega arith)
-  flow-place b (Mmtp n) l q = reading-place (drop n b) (readingOf (drop n b) (c .watch)) (start + n) l refl q
+  flow-place b (Mmtp n) l q = reading-place (drop n b) (readingOf (drop n b) (searchOf (c .watch))) (start + n) l refl q
 
   pub arrived-place : (l : Located) → arrivedAt c p start end ≡ Good l → Watched c l
-  unfolding arrivedAt
+  unfolding comesTo
   arrived-place l q = let b = partOf p start (end - start) in flow-place b (flowOf b (c .cid)) l q
 
   pub arrived-below : (a : Arrived) → arrivedAt c p start end ≡ a → placeOf a < 16

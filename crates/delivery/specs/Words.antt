@@ -7,8 +7,8 @@ use Rattle.wire.specs.Words.{Holds, Beside, Within}
 use Rattle.mmtp.specs.declared.payload.Indicator.{Indicator}
 use Rattle.mmtp.specs.declared.payload.Indicator.the-variants.{Whole}
 use Rattle.reassembly.specs.declared.channel.Channel.{Channel}
-use Rattle.reassembly.specs.declared.config.Config.{Config}
 use Rattle.reassembly.specs.declared.config.Rules.{Rules}
+use Rattle.words.specs.Config.{KeptConfig}
 use Rattle.words.specs.Channel.{readChannel, channelWords}
 use Rattle.queue.specs.declared.located.Located.{Located}
 use Rattle.queue.specs.Words.{readQueue, CleanQueue}
@@ -31,7 +31,7 @@ pub record Joins (before : List ℕ) (i k : ℕ) (l : Located) (p c : List ℕ) 
   pub channel-clean : let n = channelPlace k (l .packet .place) in CleanChannel before n → CleanChannel after n
 
 -- a TLV packet comes to its packet_id and to the queue; what waited there is replaced, a silent packet leaves it
-pub record Receives (config : Config) (before : List ℕ) (i k : ℕ) (p c : List ℕ) (start end : ℕ) (after d : List ℕ) : Type 0 where
+pub record Receives (config : KeptConfig) (before : List ℕ) (i k : ℕ) (p c : List ℕ) (start end : ℕ) (after d : List ℕ) : Type 0 where
   pub received : let a = arrivedAt config p start end in
       let n = channelPlace k (placeOf a) in
       (record { channel = readChannel after n; queue = readQueue after i }, d)

@@ -6,6 +6,7 @@ ghost use Rattle.delivery.specs.Packet.{readBy, arrivedAt, firstUnit, pi
 ghost use Rattle.queue.specs.Located.{wholeGiven};
 ghost use Rattle.delivery.specs.Packet.{wholesOf, giveOf};
 ghost use Rattle.queue.specs.Words.{GiveStored};
+ghost use Rattle.words.specs.Config.{readConfig};
 ghost use Rattle.delivery.specs.Words.{Keeps, Joins, Receives};
 use mmtp::flow::Flow;
 use mmtp::note::PacketNote;
@@ -27,7 +28,6 @@ use queue::waiting::put_none;
 use queue::waiting::put_notes;
 use queue::waiting::put_one;
 use reassembly::channel::Channel;
-use reassembly::config::Config;
 use reassembly::config::Rules;
 use reassembly::join::Action;
 use reassembly::join::Joined;
@@ -36,6 +36,10 @@ use words::channel::CHANNEL_WORDS;
 use words::channel::load_channel;
 use words::channel::store_channel;
 use words::channel::store_heard;
+use words::config::LIST;
+use words::config::load_cid;
+use words::config::load_count;
+use words::config::load_rules;
 
 // What a TLV packet comes to.
 pub enum Arrived {
@@ -56,19 +60,21 @@ fn locate(reading: Reading, start: usize, end: usize) -> Arrived
     }
 }
 
-// The TLV packet that stands from `start` to `end` in packet memory.
-pub fn arrive(config: Config, memory: &[u8], start: usize, end: usize) -> Arrived
-    ensures { λ r. ⌜ r ≡ arrivedAt config (now (memory .entry)) start end ⌝ }
+// The TLV packet that stands from `start` to `end` in packet memory. The words of what start keeps start at `c`.
+pub fn arrive(t: &[u64], c: usize, memory: &[u8], start: usize, end: usize) -> Arrived
+    requires { ⌜ c + 20 ≤ length (now t) ⌝ }
+    ensures { λ r. ⌜ r ≡ arrivedAt (readConfig (now (t .entry)) c) (now (memory .entry)) start end ⌝ }
 {
     let len = wire::memory::distance(start, end);
     let bytes = wire::memory::part(memory, start, len);
-    let flow = mmtp::flow::find(bytes, config.cid);
+    let cid = load_cid(t, c);
+    let flow = mmtp::flow::find(bytes, cid);
     match flow {
         Flow::Silent => Arrived::Silent,
         Flow::Noted(note) => Arrived::Noted(note, 0),
         Flow::Mmtp(n) => {
-            let watch = config.watch;
-            let reading = mmtp::packet::read(&bytes[n..], watch);
+            let watched = load_count(t, c);
+            let reading = mmtp::packet::read(&bytes[n..], t, c + LIST, watched);
             locate(reading, start + n, end)
         }
     }
@@ -235,8 +241,8 @@ fn join(
 
 // The TLV packet that stands from `start` to `end` comes to its packet_id; what it has yet to give takes the place of what waited there.
 pub fn receive(
-    config: Config,
     t: &mut [u64],
+    c: usize,
     i: usize,
     k: usize,
     memory: &[u8],
@@ -244,17 +250,21 @@ pub fn receive(
     start: usize,
     end: usize,
 )
-    requires { ⌜ (i + 17 ≤ k) × (k + 224 ≤ length (now t)) × (config .watch .n * config .rules .limit ≤ length (now collecting)) ⌝ }
-    ensures { λ _. ⌜ Receives config (now (t .entry)) i k (now (memory .entry)) (now (collecting .entry)) start end
+    requires { ⌜ (c + 20 ≤ i) × (i + 17 ≤ k) × (k + 224 ≤ length (now t))
+        × (readConfig (now t) c .watch .n * readConfig (now t) c .rules .limit ≤ length (now collecting)) ⌝ }
+    ensures { λ _. ⌜ Receives (readConfig (now (t .entry)) c) (now (t .entry)) i k (now (memory .entry)) (now (collecting .entry)) start end
         (now (t .exit)) (now (collecting .exit)) ⌝ }
 {
-    let arrived = arrive(config, memory, start, end);
+    let arrived = arrive(t, c, memory, start, end);
     match arrived {
         Arrived::Silent => {}
         Arrived::Noted(note, id) => {
             put_notes(t, i, number(note), false, id);
             put_none(t, i)
         }
-        Arrived::Good(l) => join(t, i, k, l, memory, collecting, config.rules),
+        Arrived::Good(l) => {
+            let rules = load_rules(t, c);
+            join(t, i, k, l, memory, collecting, rules)
+        }
     }
 }

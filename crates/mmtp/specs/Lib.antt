@@ -3,7 +3,6 @@ pub mod Cases
 pub mod Notes
 pub mod Flow
 pub mod Header
-pub mod Watch
 pub mod Take
 pub mod Unit
 pub mod Payload

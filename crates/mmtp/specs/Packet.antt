@@ -9,16 +9,14 @@ use Rattle.mmtp.specs.declared.header.HeaderRead.{HeaderRead}
 use Rattle.mmtp.specs.declared.header.HeaderRead.the-variants.{Malformed as BadHead, Good as GoodHead}
 use Rattle.mmtp.specs.declared.payload.PayloadRead.{PayloadRead}
 use Rattle.mmtp.specs.declared.payload.PayloadRead.the-variants.{Malformed as BadBody, Good as GoodBody}
-use Rattle.mmtp.specs.declared.watch.Watch.{Watch}
-use Rattle.mmtp.specs.declared.watch.Found.{Found}
-use Rattle.mmtp.specs.declared.watch.Found.the-variants.{At, Nothing}
+use Rattle.watch.specs.declared.given.Found.{Found}
+use Rattle.watch.specs.declared.given.Found.the-variants.{At, Nothing}
 use Rattle.mmtp.specs.declared.packet.Packet.{Packet}
 use Rattle.mmtp.specs.declared.packet.Reading.{Reading}
 use Rattle.mmtp.specs.declared.packet.Reading.the-variants.{Silent, Noted, Good}
 use Rattle.mmtp.specs.declared.note.PacketNote.the-variants.{BadHeader, BadPayload}
 use Rattle.mmtp.specs.Notes.{numberOf}
 use Rattle.mmtp.specs.Header.{headerOf}
-use Rattle.mmtp.specs.Watch.{lookupOf, lookup-at}
 use Rattle.mmtp.specs.Payload.{payloadOf}
 
 -- a watched packet_id's payload
@@ -30,12 +28,13 @@ unfoldable pub lookedUp : Found → List ℕ → Header → Reading
 lookedUp Nothing m h = Silent
 lookedUp (At place) m h = bodyRead place h (payloadOf m (h .start) (h .«payload_type»))
 
-unfoldable pub headRead : HeaderRead → List ℕ → Watch → Reading
-headRead BadHead m w = Noted BadHeader 0
-headRead (GoodHead h) m w = lookedUp (lookupOf w (h .«packet_id»)) m h
+unfoldable pub headRead : HeaderRead → List ℕ → (ℕ → Found) → Reading
+headRead BadHead m look = Noted BadHeader 0
+headRead (GoodHead h) m look = lookedUp (look (h .«packet_id»)) m h
 
-unfoldable pub readingOf : List ℕ → Watch → Reading
-readingOf m w = headRead (headerOf m) m w
+-- `look` is the search in the watch list: the place of a packet_id, or none
+unfoldable pub readingOf : List ℕ → (ℕ → Found) → Reading
+readingOf m look = headRead (headerOf m) m look
 
 -- the note that each case gives; 0 for none
 abbrev pub noteOf : Reading → ℕ
@@ -43,22 +42,22 @@ noteOf Silent = 0
 noteOf (Noted n id) = numberOf n
 noteOf (Good p) = 0
 
-module _ (m : List ℕ) (w : Watch) where
-  pub bad-header : headerOf m ≡ BadHead → readingOf m w ≡ Noted BadHeader 0
+module _ (m : List ℕ) (look : ℕ → Found) where
+  pub bad-header : headerOf m ≡ BadHead → readingOf m look ≡ Noted BadHeader 0
   unfolding readingOf headRead
   bad-header e = rw e
 
   module _ (h : Header) (e : headerOf m ≡ GoodHead h) where
-    good-header : readingOf m w ≡ lookedUp (lookupOf w (h .«packet_id»)) m h
+    good-header : readingOf m look ≡ lookedUp (look (h .«packet_id»)) m h
     unfolding readingOf headRead
     good-header = rw e
 
-    pub unwatched : lookupOf w (h .«packet_id») ≡ Nothing → readingOf m w ≡ Silent
+    pub unwatched : look (h .«packet_id») ≡ Nothing → readingOf m look ≡ Silent
     unfolding lookedUp
     unwatched n = good-header ∙ rw n
 
-    pub watched : (k : ℕ) → lookupOf w (h .«packet_id») ≡ At k
-        → readingOf m w ≡ bodyRead k h (payloadOf m (h .start) (h .«payload_type»))
+    pub watched : (k : ℕ) → look (h .«packet_id») ≡ At k
+        → readingOf m look ≡ bodyRead k h (payloadOf m (h .start) (h .«payload_type»))
     unfolding lookedUp
     watched k l = good-header ∙ rw l
 
@@ -66,12 +65,12 @@ module _ (m : List ℕ) (w : Watch) where
   pub record Watched (p : Packet) : Type 0 where
     pub head : Header
     pub heads : headerOf m ≡ GoodHead head
-    pub looks : lookupOf w (head .«packet_id») ≡ At (p .place)
+    pub looks : look (head .«packet_id») ≡ At (p .place)
     pub reads : payloadOf m (head .start) (head .«payload_type») ≡ GoodBody (p .payload)
     pub id : p .«packet_id» ≡ head .«packet_id»
     pub psn : p .psn ≡ head .psn
 
-  from-body : (p : Packet) (h : Header) (k : ℕ) (b : PayloadRead) → headerOf m ≡ GoodHead h → lookupOf w (h .«packet_id») ≡ At k
+  from-body : (p : Packet) (h : Header) (k : ℕ) (b : PayloadRead) → headerOf m ≡ GoodHead h → look (h .«packet_id») ≡ At k
       → payloadOf m (h .start) (h .«payload_type») ≡ b → bodyRead k h b ≡ Good p → Watched p
   unfolding bodyRead
   from-body p h k BadBody e l b q = let z : _≡_ {A = ℕ} 0 1 = cc in absurd (omega arith)
@@ -86,25 +85,30 @@ module _ (m : List ℕ) (w : Watch) where
         psn = sym (ap (λ (x : Packet). x .psn) r);
       }
 
-  from-lookup : (p : Packet) (h : Header) (f : Found) → headerOf m ≡ GoodHead h → lookupOf w (h .«packet_id») ≡ f
+  from-lookup : (p : Packet) (h : Header) (f : Found) → headerOf m ≡ GoodHead h → look (h .«packet_id») ≡ f
       → lookedUp f m h ≡ Good p → Watched p
   unfolding lookedUp
   from-lookup p h Nothing e l q = let z : _≡_ {A = ℕ} 0 1 = cc in absurd (omega arith)
   from-lookup p h (At k) e l q = from-body p h k (payloadOf m (h .start) (h .«payload_type»)) e l refl q
 
-  from-header : (p : Packet) (r : HeaderRead) → headerOf m ≡ r → headRead r m w ≡ Good p → Watched p
+  from-header : (p : Packet) (r : HeaderRead) → headerOf m ≡ r → headRead r m look ≡ Good p → Watched p
   unfolding headRead
   from-header p BadHead e q = let z : _≡_ {A = ℕ} 0 1 = cc in absurd (omega arith)
-  from-header p (GoodHead h) e q = from-lookup p h (lookupOf w (h .«packet_id»)) e refl q
+  from-header p (GoodHead h) e q = from-lookup p h (look (h .«packet_id»)) e refl q
 
-  pub packet-is : (p : Packet) → readingOf m w ≡ Good p → Watched p
+  pub packet-is : (p : Packet) → readingOf m look ≡ Good p → Watched p
   unfolding readingOf
   packet-is p q = from-header p (headerOf m) refl q
 
-  -- its place is one of the watch list, and has its packet_id
-  pub packet-place : (p : Packet) → readingOf m w ≡ Good p
-      → (p .place < 16) × (p .place < w .n) × (getD (w .ids) (p .place) 0 ≡ p .«packet_id»)
-  packet-place p q =
-      let d = packet-is p q in
-      let l = lookup-at w (d .head .«packet_id») (p .place) (d .looks) in
-      (l .0, l .1, l .2 ∙ sym (d .id))
+  -- its place is what the search finds
+  pub packet-place : (p : Packet) → readingOf m look ≡ Good p → look (p .«packet_id») ≡ At (p .place)
+  packet-place p q = let d = packet-is p q in ap look (d .id) ∙ d .looks
+
+-- two searches that answer alike read alike
+pub reading-same : (m : List ℕ) (look other : ℕ → Found) → ((id : ℕ) → look id ≡ other id) → readingOf m look ≡ readingOf m other
+unfolding readingOf headRead
+reading-same m look other e = go (headerOf m)
+  where
+    go : (r : HeaderRead) → headRead r m look ≡ headRead r m other
+    go BadHead = refl
+    go (GoodHead h) = rw (e (h .«packet_id»))

@@ -14,7 +14,7 @@ use Rattle.mmtp.specs.Unit.{unitThen, aggregateBy, aggregate, aggregateF
 use Rattle.mmtp.specs.Payload.{indicatorOf, fragmentTypeOf, mpuOf, signallingOf, parsedOf, counterFits}
 use Rattle.mmtp.specs.Payload.{aggregationFits, unitsFit, tested, payloadOf, piecesOf}
 use Rattle.mmtp.specs.Header.{headerOf, plain, payloadStart, fixedBytes, extensionBytes, extensionLength}
-use Rattle.mmtp.specs.Watch.{lookupOf, firstFrom}
+use Rattle.watch.specs.Given.{lookupOf, firstFrom}
 use Rattle.mmtp.specs.Packet.{bodyRead, lookedUp, headRead, readingOf, noteOf}
 
 -- an MPU payload: 16-bit length, its third byte, counter, MPU sequence number 9, and what follows
@@ -24,7 +24,7 @@ mpuBytes n third counter rest = 0 ∷ n ∷ third ∷ counter ∷ 0 ∷ 0 ∷ 0 
 -- the note of an MMTP packet with this payload type and payload, of the watched packet_id 0x1234 and psn 7
 abbrev note : ℕ → List ℕ → ℕ
 note type b =
-    noteOf (readingOf (0 ∷ type ∷ 0x12 ∷ 0x34 ∷ 0 ∷ 0 ∷ 0 ∷ 0 ∷ 0 ∷ 0 ∷ 0 ∷ 7 ∷ b) (record { ids = 0x1234 ∷ []; n = 1 }))
+    noteOf (readingOf (0 ∷ type ∷ 0x12 ∷ 0x34 ∷ 0 ∷ 0 ∷ 0 ∷ 0 ∷ 0 ∷ 0 ∷ 0 ∷ 7 ∷ b) (lookupOf (record { ids = 0x1234 ∷ []; n = 1 })))
 
 abbrev pub PayloadSpecimens : Type 0
 PayloadSpecimens =

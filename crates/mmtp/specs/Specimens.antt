@@ -7,12 +7,12 @@ use Rattle.mmtp.specs.declared.flow.Flow.the-variants.{Silent, Mmtp}
 use Rattle.mmtp.specs.declared.header.HeaderRead.the-variants.{Good}
 use Rattle.mmtp.specs.declared.packet.Reading.the-variants.{Silent as Unwatched, Noted}
 use Rattle.mmtp.specs.declared.note.PacketNote.the-variants.{BadPayload}
-use Rattle.mmtp.specs.declared.watch.Watch.{Watch}
+use Rattle.watch.specs.declared.given.Found.{Found}
 use Rattle.wire.specs.Field.{be}
 use Rattle.mmtp.specs.Flow.{flowOf, compressedOf, behind, compressedHeader}
 use Rattle.mmtp.specs.Flow as flow
 use Rattle.mmtp.specs.Header.{headerOf, plain, payloadStart, fixedBytes, extensionBytes, extensionLength}
-use Rattle.mmtp.specs.Watch.{lookupOf, firstFrom}
+use Rattle.watch.specs.Given.{lookupOf, firstFrom}
 use Rattle.mmtp.specs.Unit.{aggregateFits, aggregateBy, aggregate}
 use Rattle.mmtp.specs.Payload.{payloadOf, tested, parsedOf, signallingOf, counterFits, indicatorOf, aggregationFits, unitsFit}
 use Rattle.mmtp.specs.Packet.{readingOf, headRead, lookedUp, bodyRead, noteOf}
@@ -29,8 +29,9 @@ extended = 0x00 ∷ 0x00 ∷ 0x00 ∷ 0x05 ∷ 0x00 ∷ 0x01 ∷ 0x00 ∷ 0x04 �
 abbrev pub message : List ℕ
 message = 0x00 ∷ 0x00 ∷ 0xAA ∷ 0xBB ∷ []
 
-abbrev pub watching : ℕ → Watch
-watching id = record { ids = id ∷ []; n = 1 }
+-- the search where this id alone is watched
+abbrev pub watching : ℕ → ℕ → Found
+watching id = lookupOf (record { ids = id ∷ []; n = 1 })
 
 abbrev pub HeaderSpecimens : Type 0
 HeaderSpecimens =

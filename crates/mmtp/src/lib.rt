@@ -6,4 +6,3 @@ pub mod packet;
 pub mod payload;
 pub mod reader;
 pub mod unit;
-pub mod watch;

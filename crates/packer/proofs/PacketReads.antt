@@ -26,9 +26,9 @@ use Rattle.mmtp.specs.Payload.{indicatorOf, fragmentTypeOf, flag, counterFits, 
 use Rattle.mmtp.specs.Payload.{signallingOf, signalling-by, mpuOf, mpu-by, parsedOf, payloadOf, payload-good}
 use Rattle.mmtp.specs.Payload.{units-single, piecesOf, pieces-single}
 use Rattle.mmtp.specs.Packet.{bodyRead, watched}
-use Rattle.mmtp.specs.declared.watch.Watch.{Watch}
-use Rattle.mmtp.specs.declared.watch.Found.the-variants.{At}
-use Rattle.mmtp.specs.Watch.{lookupOf}
+use Rattle.watch.specs.declared.given.Watch.{Watch}
+use Rattle.watch.specs.declared.given.Found.the-variants.{At}
+use Rattle.watch.specs.Given.{lookupOf}
 use Rattle.mmtp.specs.Unit.{fieldBytes, noFields, timedFields as timedRead, itemFields, fieldsOf, pieceOf, singleFits}
 use Rattle.reassembly.specs.declared.unit.Unit.{Unit}
 use Rattle.reassembly.specs.declared.join.Piece.{Piece}
@@ -315,7 +315,7 @@ packet-read cid sn place w p s c n o e h l =
     let b = payload-read p s o e h in
     record {
       flow = flow-read cid sn p s c n;
-      reading = rw behind-7 (watched (mmtpOf p s) w (headerMeant p) (header-read p s o) place l ∙ rw b);
+      reading = rw behind-7 (watched (mmtpOf p s) (lookupOf w) (headerMeant p) (header-read p s o) place l ∙ rw b);
       unit = rw behind-7 (unit-read p s o);
     }
 

@@ -10,10 +10,10 @@ use Rattle.mmtp.specs.declared.flow.Flow.the-variants.{Mmtp}
 use Rattle.mmtp.specs.declared.unit.Fields.{Fields}
 use Rattle.mmtp.specs.declared.packet.Packet.{Packet}
 use Rattle.mmtp.specs.declared.packet.Reading.the-variants.{Good}
-use Rattle.mmtp.specs.declared.watch.Watch.{Watch}
-use Rattle.mmtp.specs.declared.watch.Found.the-variants.{At}
+use Rattle.watch.specs.declared.given.Watch.{Watch}
+use Rattle.watch.specs.declared.given.Found.the-variants.{At}
 use Rattle.mmtp.specs.Flow.{flowOf}
-use Rattle.mmtp.specs.Watch.{lookupOf}
+use Rattle.watch.specs.Given.{lookupOf}
 use Rattle.mmtp.specs.Unit.{noFields}
 use Rattle.mmtp.specs.Payload.{counterFits, piecesOf}
 use Rattle.mmtp.specs.Packet.{readingOf}
@@ -94,7 +94,7 @@ meant place p =
 -- what a receiver of this CID and watch list reads of the TLV packet `b`: the packet that is meant, with its one data unit
 pub record ReadAs (cid place : ℕ) (w : Watch) (p : Piece) (s b : List ℕ) : Type 0 where
   pub flow : flowOf b cid ≡ Mmtp 7
-  pub reading : readingOf (drop 7 b) w ≡ Good (meant place p)
+  pub reading : readingOf (drop 7 b) (lookupOf w) ≡ Good (meant place p)
   pub unit : piecesOf (drop 7 b) (meant place p .payload) ≡ record { fields = p .unit .fields; bytes = s } ∷ []
 
 abbrev pub PacketRead : Type 0

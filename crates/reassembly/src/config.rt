@@ -1,5 +1,5 @@
 // What a receiver is started with.
-use mmtp::watch::Watch;
+use watch::given::Watch;
 
 pub struct Config {
     // The stream id of the TLV stream.

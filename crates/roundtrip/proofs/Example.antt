@@ -11,8 +11,8 @@ use Rattle.wire.specs.Field.{be, bytesOf}
 use Rattle.tmcc.specs.Count.{allBelow}
 use Rattle.tmcc.specs.Mode.{dataBytes}
 use Rattle.tlv.specs.Packet.{goodFirst, total, complete, marked}
-use Rattle.mmtp.specs.declared.watch.Found.the-variants.{At}
-use Rattle.mmtp.specs.Watch.{lookupOf, firstFrom}
+use Rattle.watch.specs.declared.given.Found.the-variants.{At}
+use Rattle.watch.specs.Given.{lookupOf, firstFrom}
 use Rattle.reassembly.specs.declared.unit.Unit.{Unit}
 use Rattle.state.specs.Start.{before, twiceBelow, twice, startRefusal, startFrom}
 use Rattle.packer.specs.Pieces.{piecesBy, pieces, indicatorAt, counterAt, withPsn, pieceAt}

@@ -45,7 +45,7 @@ use Rattle.cutter.specs.Claims.{slotsFrom}
 use Rattle.broadcast.specs.Frames.{none, ownSlots, slotsFrom as frameSlots}
 use Rattle.broadcast.specs.Accepts.{GoodFrame}
 use Rattle.broadcast.proofs.Accepts.{accepts}
-use Rattle.mmtp.specs.Watch.{lookupOf, firstFrom}
+use Rattle.watch.specs.Given.{lookupOf, firstFrom}
 use Rattle.state.specs.Start.{before, twiceBelow, twice, startRefusal, Starts, starts as start-keeps}
 use Rattle.roundtrip.specs.Sending.{allPackets, padded}
 use Rattle.roundtrip.specs.RoundTrip.{runOf}

@@ -7,8 +7,8 @@ use native.Mathlib.Omega.{arith}
 use lib.ListN.{length, getD}
 use lib.Dec.{eqb}
 use borrow.Author.Tests.{eqb-true, eqb-false}
-use Rattle.mmtp.specs.declared.watch.Found.the-variants.{At}
-use Rattle.mmtp.specs.Watch.{lookupOf, lookup-at}
+use Rattle.watch.specs.declared.given.Found.the-variants.{At}
+use Rattle.watch.specs.Given.{lookupOf, lookup-at}
 use Rattle.reassembly.specs.declared.config.Config.{Config}
 use Rattle.reassembly.specs.declared.channel.Channel.{Channel}
 use Rattle.reassembly.specs.declared.channel.Phase.the-variants.{Unheard, Idle}

@@ -5,8 +5,8 @@ use mathlib.Core.Bool.{Bool, true, false}
 use mathlib.Core.List.{List, [], _∷_, _++_}
 use lib.ListN.{length, getD}
 use lib.Dec.{eqb}
-use Rattle.mmtp.specs.declared.watch.Found.the-variants.{At}
-use Rattle.mmtp.specs.Watch.{lookupOf}
+use Rattle.watch.specs.declared.given.Found.the-variants.{At}
+use Rattle.watch.specs.Given.{lookupOf}
 use Rattle.tlv.specs.Packet.{maxPacket}
 use Rattle.reassembly.specs.declared.config.Config.{Config}
 use Rattle.reassembly.specs.declared.unit.Unit.{Unit}

@@ -12,7 +12,8 @@ use lib.Seq.{getD-set-same, ext-getD}
 use borrow.Author.Tests.{ltb-true, ltb-false, eqb-true, eqb-false}
 use Rattle.wire.specs.Words.{Holds, Put, Within, Beside, Same, Zeros, zeros-hold, put-within, flagOf, flagWord, flag-back}
 use Rattle.reassembly.specs.declared.config.Config.{Config}
-use Rattle.words.specs.Channel.{readConfig, configWords, config-same, readChannel, channelWords, channel-same, channel-zero-clean, ConfigStored, config-clean}
+use Rattle.words.specs.Config.{readConfig, configWords, ConfigStored, config-same, config-clean}
+use Rattle.words.specs.Channel.{readChannel, channelWords, channel-same, channel-zero-clean}
 use Rattle.intake.specs.declared.held.Held.{Held}
 use Rattle.intake.specs.declared.held.Cursor.{Cursor}
 use Rattle.words.specs.Cursor.{readHeld, heldWords, held-same, held-clean, held-zero-clean, readCursor, cursorWords, CursorStored, cursor-same, cursor-clean, cursor-zero-clean}

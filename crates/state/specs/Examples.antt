@@ -2,7 +2,7 @@
 use Prim.Native.Nat.{ℕ}
 use mathlib.Core.Path.{_≡_, refl}
 use lib.ListN.{replicate}
-use Rattle.mmtp.specs.Watch.{firstFrom, lookupOf}
+use Rattle.watch.specs.Given.{firstFrom, lookupOf}
 use Rattle.reassembly.specs.declared.config.Config.{Config}
 use Rattle.tmcc.specs.Layout.{blankLayout}
 use Rattle.state.specs.State.{State, withFrame}

@@ -18,7 +18,9 @@ use Rattle.tmcc.specs.declared.layout.Pointers.{Pointers}
 use Rattle.tmcc.specs.Layout.{blankLayout}
 use Rattle.reassembly.specs.declared.config.Config.{Config}
 use Rattle.reassembly.specs.Channel.{unheard}
-use Rattle.words.specs.Channel.{readConfig, ConfigStored, config-same, config-put, readChannel, channel-same, channel-zero}
+use Rattle.words.specs.Config.{KeptConfig, readConfig, ConfigStored, config-same}
+use Rattle.watch.specs.Words.{risingIn}
+use Rattle.words.specs.Channel.{readChannel, channel-same, channel-zero}
 use Rattle.intake.specs.declared.held.Held.{Held}
 use Rattle.intake.specs.declared.held.Cursor.{Cursor}
 use Rattle.words.specs.Cursor.{readHeld, heldWords, held-same, held-put, held-zero, readCursor, cursor-same, cursor-zero}
@@ -320,7 +322,7 @@ module _ (t u : List ℕ) (n : ℕ) (low : n < 16) (w : (m : ℕ) → 47 ≤ m �
             ∙ sym (getD-set-other (channelsIn t) n k (readChannel u (channelPlace 47 n)) unheard d)
 
 -- a packet that comes to its packet_id and to the queue
-module _ (config : Config) (t p c : List ℕ) (start end : ℕ) (u d : List ℕ) (r : Receives config t 30 47 p c start end u d) where
+module _ (config : KeptConfig) (t p c : List ℕ) (start end : ℕ) (u d : List ℕ) (r : Receives config t 30 47 p c start end u d) where
   abbrev pub placed : ℕ
   placed = placeOf (arrivedAt config p start end)
 
@@ -390,7 +392,7 @@ state-fresh t u v c l z s =
     λ m h g. w .elsewhere m (inr h) ∙ s .put .above m (omega arith) ∙ z .zero m g in
     rw (
       config-same x 0 v 0 (kept-words v x 20 1 w 0 20 (inl (omega arith))),
-      config-put u v 0 c s,
+      s .read,
       layout-zero x (λ j g. zero (271 + j) (omega arith) (omega arith)),
       getD-set-same v 20 120 0 (omega (arith, s .put .size, z .size)),
       zero 21 (omega arith) (omega arith),
@@ -439,7 +441,7 @@ module _ (t : List ℕ) where
   stream-in = refl
 
   pub count-in : stateIn t .config .watch .n ≡ getD t 2 0
-  unfolding stateIn readConfig
+  unfolding stateIn readConfig risingIn
   count-in = refl
 
   pub limit-in : stateIn t .config .rules .limit ≡ getD t 3 0

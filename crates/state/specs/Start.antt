@@ -8,15 +8,16 @@ use native.Mathlib.Omega.{arith}
 use borrow.Author.Tests.{le-ltb, eq-eqb, ne-eqb, eqb-true, eqb-false, ltb-false}
 use lib.ListN.{getD, replicate}
 use lib.Dec.{eqb, ltb}
-use Rattle.mmtp.specs.declared.watch.Watch.{Watch}
-use Rattle.mmtp.specs.declared.watch.Found.{Found}
-use Rattle.mmtp.specs.declared.watch.Found.the-variants.{At, Nothing}
-use Rattle.mmtp.specs.Watch.{lookupOf, Distinct, lookup-at, lookup-none}
+use Rattle.watch.specs.declared.given.Watch.{Watch}
+use Rattle.watch.specs.declared.given.Found.{Found}
+use Rattle.watch.specs.declared.given.Found.the-variants.{At, Nothing}
+use Rattle.watch.specs.Given.{lookupOf, Distinct, lookup-at, lookup-none}
 use Rattle.reassembly.specs.declared.config.Config.{Config}
 use Rattle.reassembly.specs.Channel.{unheard}
 use Rattle.tmcc.specs.Layout.{blankLayout}
 use Rattle.state.specs.State.{State, Called, refused, accepted}
 use Rattle.wire.specs.Choice.{passed, neither}
+use Rattle.words.specs.Config.{keptConfig}
 use Rattle.intake.specs.Slot.{searching, noted}
 use Rattle.queue.specs.Queue.{empty}
 
@@ -40,7 +41,7 @@ twice w n = twiceBelow (w .ids) (min n 16)
 unfoldable pub freshState : Config → State
 freshState c =
     record {
-      config = c;
+      config = keptConfig c;
       frame = record { layout = blankLayout; at = 120 };
       owed = false;
       held = searching;

@@ -8,7 +8,7 @@ use Rattle.intake.specs.declared.held.Cursor.{Cursor}
 use Rattle.intake.specs.declared.held.Intake.{Intake}
 use Rattle.queue.specs.Waiting.{Queue}
 use Rattle.queue.specs.declared.event.Event.{Event}
-use Rattle.reassembly.specs.declared.config.Config.{Config}
+use Rattle.words.specs.Config.{KeptConfig}
 use Rattle.tmcc.specs.declared.layout.Layout.{Layout}
 
 -- the frame: its layout, and the next slot, counted from 0; 120 where none is due
@@ -17,7 +17,8 @@ pub record Frame : Type 0 where
   pub at : ℕ
 
 pub record State : Type 0 where
-  pub config : Config
+  -- what start keeps of what it was given
+  pub config : KeptConfig
   pub frame : Frame
   -- whether next is owed
   pub owed : Bool

@@ -10,7 +10,8 @@ use Rattle.wire.specs.Words.{Holds, Put, Within, flagOf, flagWord}
 use Rattle.tmcc.specs.declared.layout.Layout.{Layout}
 use Rattle.tmcc.specs.declared.layout.Pointers.{Pointers}
 use Rattle.reassembly.specs.declared.channel.Channel.{Channel}
-use Rattle.words.specs.Channel.{readConfig, configWords, readChannel}
+use Rattle.words.specs.Config.{readConfig, configWords}
+use Rattle.words.specs.Channel.{readChannel}
 use Rattle.words.specs.Cursor.{readHeld, heldWords, readCursor, cursorWords}
 use Rattle.queue.specs.declared.event.Event.{Event}
 use Rattle.queue.specs.declared.event.Event.the-variants.{Refused}

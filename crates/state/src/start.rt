@@ -7,11 +7,11 @@ ghost use Rattle.state.specs.Start.{twice, freshState, startRefusal, sta
 use crate::places::AT;
 use crate::places::CONFIG;
 use crate::places::STATE_WORDS;
-use mmtp::watch::Found;
-use mmtp::watch::Watch;
-use mmtp::watch::lookup;
+use watch::given::Found;
+use watch::given::Watch;
+use watch::given::lookup;
 use reassembly::config::Config;
-use words::channel::store_config;
+use words::config::store_config;
 
 // Whether an id stands twice among the first `n`, at most 16.
 fn has_twice(watch: Watch, n: usize) -> bool

@@ -38,13 +38,16 @@ pub finds : Finds
 unfolding inserted risingOf searched searchOf firstFrom lookupOf
 finds = (refl, refl, refl, refl, refl, refl, refl, refl, refl, refl, refl)
 
+abbrev word : ℕ → ℕ → ℕ
+word id place = id * 16 + place
+
 -- words of falling ids: the search stops at the first larger one
 abbrev falling : List ℕ
-falling = 9 * 16 ∷ 3 * 16 + 1 ∷ replicate 14 0
+falling = word 9 0 ∷ word 3 1 ∷ replicate 14 0
 
 -- words of an id at a place that n ids do not have, of an id that no packet has, and of one id twice
 abbrev wild : List ℕ
-wild = 3 * 16 + 2 ∷ 5 * 16 ∷ 5 * 16 + 1 ∷ 65536 * 16 ∷ replicate 12 0
+wild = word 3 2 ∷ word 5 0 ∷ word 5 1 ∷ word 65536 0 ∷ replicate 12 0
 
 abbrev pub Wild : Type 0
 Wild =

@@ -1,7 +1,7 @@
--- What start is given, and the states of packet_ids, in words that the caller lends. Reading is total, also of words that no call
--- writes; what is written is read back.
+-- The states of packet_ids in words that the caller lends. Reading is total, also of words that no call writes; what is written is
+-- read back.
 use Prim.Native.Nat.{ℕ, zero, suc, _+_, _%_, _<_}
-use mathlib.Core.Path.{_≡_, refl, _∙_, ap}
+use mathlib.Core.Path.{_≡_, refl, _∙_}
 use mathlib.Core.Bool.{cond}
 use mathlib.Core.Logic.{inr}
 use mathlib.Core.List.{List, [], _∷_, _++_}
@@ -9,14 +9,12 @@ use native.Mathlib.Nat.{mod-eq-of-lt, add-zero}
 use native.Mathlib.Omega.{arith}
 use lib.Dec.{eqb}
 use lib.ListN.{length, getD, replicate, length-append}
-use Rattle.wire.specs.Tab.{tab, tab-same, tab-list}
 use Rattle.wire.specs.Words.{Holds, Zeros, Put, Same, same-from, same-first, same-front, same-behind, put-same, put-holds, zeros-hold}
 use Rattle.mmtp.specs.declared.header.Psn.{Psn}
 use Rattle.mmtp.specs.declared.unit.Fields.{Fields}
 use Rattle.reassembly.specs.declared.channel.Phase.{Phase}
 use Rattle.reassembly.specs.declared.channel.Phase.the-variants.{Unheard, Waiting, Idle, Open}
 use Rattle.reassembly.specs.declared.channel.Channel.{Channel}
-use Rattle.reassembly.specs.declared.config.Config.{Config}
 use Rattle.reassembly.specs.declared.unit.Unit.{Unit}
 use Rattle.reassembly.specs.Channel.{unheard}
 
@@ -73,22 +71,6 @@ channelWords ch =
     ((phaseWord (ch .phase) ∷ ch .last .0 ∷ []) ++ unitWords (ch .current .unit))
     ++ (ch .current .counter ∷ ch .current .len ∷ [])
 
--- what start was given, twenty words: stream, CID, n, R, and sixteen ids
-unfoldable pub readIds : List ℕ → ℕ → List ℕ
-readIds t i = tab (λ k. getD t (i + k) 0 % 65536) 16
-
-unfoldable pub readConfig : List ℕ → ℕ → Config
-readConfig t i =
-    record {
-      stream = getD t i 0 % 65536;
-      cid = getD t (i + 1) 0 % 65536;
-      watch = record { ids = readIds t (i + 4); n = getD t (i + 2) 0 };
-      rules = record { limit = getD t (i + 3) 0 };
-    }
-
-unfoldable pub configWords : Config → List ℕ
-configWords c = (c .stream ∷ c .cid ∷ c .watch .n ∷ c .rules .limit ∷ []) ++ c .watch .ids
-
 -- what the types keep to
 pub record SizedFields (f : Fields) : Type 0 where
   pub fragment : f .«movie_fragment» < 4294967296
@@ -110,13 +92,7 @@ pub record SizedChannel (ch : Channel) : Type 0 where
   pub unit : SizedUnit (ch .current .unit)
   pub counter : ch .current .counter < 256
 
-pub record SizedConfig (c : Config) : Type 0 where
-  pub stream : c .stream < 65536
-  pub cid : c .cid < 65536
-  pub count : length (c .watch .ids) ≡ 16
-  pub ids : (k : ℕ) → k < 16 → getD (c .watch .ids) k 0 < 65536
-
--- words after fields, what a unit carries, a packet_id's state, sixteen ids, or what start was given was stored from i on
+-- words after fields, what a unit carries, or a packet_id's state was stored from i on
 pub record FieldsStored (before after : List ℕ) (i : ℕ) (f : Fields) : Type 0 where
   pub put : Put before after i 6 (fieldWords f)
   pub sized : SizedFields f
@@ -128,15 +104,6 @@ pub record UnitStored (before after : List ℕ) (i : ℕ) (u : Unit) : Type 0 wh
 pub record ChannelStored (before after : List ℕ) (i : ℕ) (ch : Channel) : Type 0 where
   pub put : Put before after i 14 (channelWords ch)
   pub sized : SizedChannel ch
-
-pub record IdsStored (before after : List ℕ) (i : ℕ) (ids : List ℕ) : Type 0 where
-  pub put : Put before after i 16 ids
-  pub count : length ids ≡ 16
-  pub sized : (k : ℕ) → k < 16 → getD ids k 0 < 65536
-
-pub record ConfigStored (before after : List ℕ) (i : ℕ) (c : Config) : Type 0 where
-  pub put : Put before after i 20 (configWords c)
-  pub sized : SizedConfig c
 
 -- the phase and the last psn alone
 pub record HeardStored (before after : List ℕ) (i : ℕ) (phase : Phase) (last : Psn) : Type 0 where
@@ -160,10 +127,6 @@ pub length-channel : (ch : Channel) → length (channelWords ch) ≡ 14
 unfolding channelWords unitWords fieldWords
 length-channel ch = refl
 
-pub length-config : (c : Config) → length (c .watch .ids) ≡ 16 → length (configWords c) ≡ 20
-unfolding configWords
-length-config c h = rw h
-
 -- the same words, perhaps elsewhere, are read as the same
 module _ (t : List ℕ) (i : ℕ) (u : List ℕ) (k : ℕ) where
   pub fields-same : Same t i u k 6 → readFields t i ≡ readFields u k
@@ -178,11 +141,6 @@ module _ (t : List ℕ) (i : ℕ) (u : List ℕ) (k : ℕ) where
         s 5 (omega arith),
       )
 
-  pub ids-same : Same t i u k 16 → readIds t i ≡ readIds u k
-  unfolding readIds
-  ids-same s =
-      tab-same (λ j. getD t (i + j) 0 % 65536) (λ j. getD u (k + j) 0 % 65536) 16 (λ j h. ap (λ (x : ℕ). x % 65536) (s j h))
-
 module _ (t : List ℕ) (i : ℕ) (u : List ℕ) (k : ℕ) where
   pub unit-same : Same t i u k 10 → readUnit t i ≡ readUnit u k
   unfolding readUnit
@@ -193,17 +151,6 @@ module _ (t : List ℕ) (i : ℕ) (u : List ℕ) (k : ℕ) where
         s 2 (omega arith),
         s 3 (omega arith),
         fields-same t (i + 4) u (k + 4) (same-from t i u k 4 6 10 (omega arith) s),
-      )
-
-  pub config-same : Same t i u k 20 → readConfig t i ≡ readConfig u k
-  unfolding readConfig
-  config-same s =
-      rw (
-        same-first t i u k 20 (omega arith) s,
-        s 1 (omega arith),
-        s 2 (omega arith),
-        s 3 (omega arith),
-        ids-same t (i + 4) u (k + 4) (same-from t i u k 4 16 20 (omega arith) s),
       )
 
 module _ (t : List ℕ) (i : ℕ) (u : List ℕ) (k : ℕ) where
@@ -265,24 +212,6 @@ channel-back : (ch : Channel) → SizedChannel ch → readChannel (channelWords 
 unfolding readChannel channelWords unitWords fieldWords
 channel-back ch s = rw (phase-back (ch .phase), mod-eq-of-lt (s .last), unit-in ch s, mod-eq-of-lt (s .counter))
 
-ids-back : (ids : List ℕ) → length ids ≡ 16 → ((k : ℕ) → k < 16 → getD ids k 0 < 65536) → readIds ids 0 ≡ ids
-unfolding readIds
-ids-back ids l s =
-    tab-same (λ j. getD ids (0 + j) 0 % 65536) (λ j. getD ids j 0) 16
-    (λ j h. let e : 0 + j ≡ j = omega arith in rw e (mod-eq-of-lt (s j h)))
-    ∙ tab-list ids 16 0 l
-
-ids-in : (c : Config) → SizedConfig c → readIds (configWords c) 4 ≡ c .watch .ids
-unfolding configWords
-ids-in c s =
-    ids-same (configWords c) 4 (c .watch .ids) 0
-    (same-behind (c .stream ∷ c .cid ∷ c .watch .n ∷ c .rules .limit ∷ []) (c .watch .ids) 4 16 refl)
-    ∙ ids-back (c .watch .ids) (s .count) (s .ids)
-
-config-back : (c : Config) → SizedConfig c → readConfig (configWords c) 0 ≡ c
-unfolding readConfig configWords
-config-back c s = rw (mod-eq-of-lt (s .stream), mod-eq-of-lt (s .cid), ids-in c s)
-
 -- what was stored is read back, and the words stored are those of what is read there
 module _ (t u : List ℕ) (i : ℕ) where
   pub unit-put : (x : Unit) → UnitStored t u i x → readUnit u i ≡ x
@@ -292,17 +221,11 @@ module _ (t u : List ℕ) (i : ℕ) where
   channel-put ch p =
       channel-same u i (channelWords ch) 0 (put-holds t u i 14 (channelWords ch) (p .put)) ∙ channel-back ch (p .sized)
 
-  pub config-put : (c : Config) → ConfigStored t u i c → readConfig u i ≡ c
-  config-put c p = config-same u i (configWords c) 0 (put-holds t u i 20 (configWords c) (p .put)) ∙ config-back c (p .sized)
-
   pub unit-clean : (x : Unit) → UnitStored t u i x → Holds u i 10 (unitWords (readUnit u i))
   unit-clean x p = rw (unit-put x p) (p .put .holds)
 
   pub channel-clean : (ch : Channel) → ChannelStored t u i ch → Holds u i 14 (channelWords (readChannel u i))
   channel-clean ch p = rw (channel-put ch p) (p .put .holds)
-
-  pub config-clean : (c : Config) → ConfigStored t u i c → Holds u i 20 (configWords (readConfig u i))
-  config-clean c p = rw (config-put c p) (p .put .holds)
 
 -- the phase and the last psn alone: the current unit stays as it was
 module _ (t u : List ℕ) (i : ℕ) (p : Phase) (psn : Psn) where

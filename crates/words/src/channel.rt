@@ -1,17 +1,14 @@
-// What start is given, and the states of packet_ids, in words that the caller lends.
+// The states of packet_ids in words that the caller lends.
 ghost use mathlib.Core.Path.{_≡_};
 ghost use Prim.Native.Nat.{_+_, _≤_};
 ghost use lib.ListN.{length};
-ghost use Rattle.words.specs.Channel.{phaseOf, phaseWord, readFields, readUnit, readChannel, readIds, readConfig};
-ghost use Rattle.words.specs.Channel.{FieldsStored, UnitStored, HeardStored, ChannelStored, IdsStored, ConfigStored};
+ghost use Rattle.words.specs.Channel.{phaseOf, phaseWord, readFields, readUnit, readChannel};
+ghost use Rattle.words.specs.Channel.{FieldsStored, UnitStored, HeardStored, ChannelStored};
 use mmtp::header::Psn;
 use mmtp::unit::Fields;
-use mmtp::watch::Watch;
 use reassembly::channel::Channel;
 use reassembly::channel::OpenUnit;
 use reassembly::channel::Phase;
-use reassembly::config::Config;
-use reassembly::config::Rules;
 use reassembly::unit::Unit;
 
 // The words of one packet_id's state.
@@ -138,63 +135,4 @@ pub fn store_channel(t: &mut [u64], i: usize, ch: Channel)
     store_unit(t, i + 2, unit);
     t[i + 12] = current.counter as u64;
     t[i + 13] = current.len as u64;
-}
-
-// The sixteen ids, whose words start at `i`.
-fn load_ids(t: &[u64], i: usize) -> [u16; 16]
-    requires { ⌜ i + 16 ≤ length (now t) ⌝ }
-    ensures { λ r. ⌜ r ≡ readIds (now (t .entry)) i ⌝ }
-{
-    let mut ids = [0u16; 16];
-    let mut k = 0;
-    while k < 16 {
-        ids[k] = (t[i + k] % 65536) as u16;
-        k += 1;
-    }
-    ids
-}
-
-// What start was given, whose words start at `i`.
-pub fn load_config(t: &[u64], i: usize) -> Config
-    requires { ⌜ i + 20 ≤ length (now t) ⌝ }
-    ensures { λ r. ⌜ r ≡ readConfig (now (t .entry)) i ⌝ }
-{
-    let ids = load_ids(t, i + 4);
-    let watch = Watch {
-        ids,
-        n: t[i + 2] as usize,
-    };
-    Config {
-        stream: (t[i] % 65536) as u16,
-        cid: (t[i + 1] % 65536) as u16,
-        watch,
-        rules: Rules {
-            limit: t[i + 3] as usize,
-        },
-    }
-}
-
-fn store_ids(t: &mut [u64], i: usize, ids: [u16; 16])
-    requires { ⌜ i + 16 ≤ length (now t) ⌝ }
-    ensures { λ _. ⌜ IdsStored (now (t .entry)) (now (t .exit)) i ids ⌝ }
-{
-    let mut k = 0;
-    while k < 16 {
-        t[i + k] = ids[k] as u64;
-        k += 1;
-    }
-}
-
-pub fn store_config(t: &mut [u64], i: usize, config: Config)
-    requires { ⌜ i + 20 ≤ length (now t) ⌝ }
-    ensures { λ _. ⌜ ConfigStored (now (t .entry)) (now (t .exit)) i config ⌝ }
-{
-    let watch = config.watch;
-    let rules = config.rules;
-    let ids = watch.ids;
-    t[i] = config.stream as u64;
-    t[i + 1] = config.cid as u64;
-    t[i + 2] = watch.n as u64;
-    t[i + 3] = rules.limit as u64;
-    store_ids(t, i + 4, ids);
 }
