@@ -13,9 +13,8 @@ use Rattle.frames.specs.Slot.{shortBy}
 use Rattle.receiver.specs.Next.{nextOf, next-short}
 use Rattle.receiver.specs.Show.{showOf}
 use Rattle.receiver.proofs.Demand1.{demand-1}
-use Rattle.words.specs.Channel.{readConfig}
 use Rattle.calls.specs.Bounds.{areWithin}
-use Rattle.calls.specs.Settings.{settingsMost, start-by, start-not}
+use Rattle.calls.specs.Settings.{settingsMost, start-by, start-not, configIn}
 use Rattle.calls.specs.Record.{recordWords, readPlace}
 use Rattle.calls.specs.Events.{refusalOf, refused-event, next-few, next-done, next-refused, events-few, events-short, events-done}
 use Rattle.calls.specs.Show.{show-few, show-long, copied-short, copied-whole}
@@ -27,7 +26,7 @@ start-answer st s = go (areWithin s settingsMost) refl
     go : (b : Bool) → areWithin s settingsMost ≡ b → StartAnswer st s
     go true e =
         let g = start-by st s e in
-        inr (e, g, λ z. rw g (demand-1 .start st (readConfig s 0) (rw g at z) .state))
+        inr (e, g, λ z. rw g (demand-1 .start st (configIn s) (rw g at z) .state))
     go false e = inl (e, start-not st s e)
 
 -- with memories that are not too short next is not refused

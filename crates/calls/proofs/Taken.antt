@@ -1,19 +1,20 @@
 -- Why settings that are written for a configuration are taken for it, and which word of a record is which.
-use Prim.Native.Nat.{ℕ, zero, suc, _<_, _≤_}
+use Prim.Native.Nat.{ℕ, zero, suc, _+_, _%_, _<_, _≤_}
 use mathlib.Core.Path.{_≡_, refl, _∙_, ap}
 use mathlib.Core.Bool.{true}
 use mathlib.Core.List.{List, [], _∷_, _++_}
-use native.Mathlib.Nat.{zero-add}
+use native.Mathlib.Nat.{mod-eq-of-lt}
 use native.Mathlib.Omega.{arith}
 use borrow.Author.Tests.{le-leb}
-use lib.ListN.{length, getD, replicate}
-use Rattle.wire.specs.Words.{holds-front, holds-put}
+use lib.ListN.{length, getD, replicate, List·getD-append}
+use lib.Seq.{getD-append-add}
+use Rattle.wire.specs.Tab.{tab-same, tab-list}
 use Rattle.reassembly.specs.declared.config.Config.{Config}
-use Rattle.words.specs.Channel.{SizedConfig, readConfig, configWords, unitWords, fieldWords, length-config, config-put}
+use Rattle.words.specs.Channel.{unitWords, fieldWords}
 use Rattle.state.specs.Start.{startFrom}
 use Rattle.calls.specs.Bounds.{areWithin}
 use Rattle.calls.specs.Record.{unitRecord}
-use Rattle.calls.specs.Settings.{most16, most64, settingsMost, start-by}
+use Rattle.calls.specs.Settings.{most16, most64, settingsMost, SizedConfig, idsIn, configIn, start-by}
 use Rattle.calls.specs.Claims.{settingsOf, SettingsClaim, RecordClaim}
 
 -- n words at most m each, and words behind them
@@ -26,22 +27,23 @@ within-all (suc n) m [] ys ms l h = absurd (omega arith)
 within-all (suc n) m (x ∷ xs) ys ms l h =
     rw (le-leb x m (h 0 (omega arith))) (within-all n m xs ys ms (omega arith) (λ k g. h (suc k) (omega arith)))
 
-read : (c : Config) → SizedConfig c → readConfig (settingsOf c) 0 ≡ c
-unfolding configWords
-read c s =
-    let l = length-config c (s .count) in
-    config-put (settingsOf c) (settingsOf c) 0 c
-    (record {
-      put =
-          holds-put (settingsOf c) 0 20 (configWords c)
-          (holds-front (settingsOf c) 0 20 20 (configWords c) (replicate 12 0) (omega arith) (omega arith)
-          (λ j h. ap (λ (x : ℕ). getD (settingsOf c) x 0) (zero-add j)));
-      sized = s;
-    })
+ids-read : (c : Config) → SizedConfig c → idsIn (settingsOf c) ≡ c .watch .ids
+unfolding idsIn
+ids-read c s =
+    let xs = c .stream ∷ c .cid ∷ c .watch .n ∷ c .rules .limit ∷ [] in
+    let ids = c .watch .ids in
+    tab-same (λ k. getD (settingsOf c) (4 + k) 0 % 65536) (λ k. getD ids k 0) 16
+    (λ k h. rw (getD-append-add xs (ids ++ replicate 12 0) k 0, List·getD-append ids (replicate 12 0) 0 k (omega (arith, s .count)))
+    (mod-eq-of-lt (s .ids k h)))
+    ∙ tab-list ids 16 0 (s .count)
+
+read : (c : Config) → SizedConfig c → configIn (settingsOf c) ≡ c
+unfolding configIn
+read c s = rw (mod-eq-of-lt (s .stream), mod-eq-of-lt (s .cid), ids-read c s)
 
 fit : (c : Config) → SizedConfig c → c .watch .n ≤ most64 → c .rules .limit ≤ most64
     → areWithin (settingsOf c) settingsMost ≡ true
-unfolding areWithin settingsMost configWords
+unfolding areWithin settingsMost
 fit c s n r =
     let a = s .stream in
     let b = s .cid in

@@ -8,7 +8,6 @@ use mathlib.Core.List.{List, [], _∷_, _++_}
 use lib.ListN.{length, replicate}
 use Rattle.wire.specs.Memory.{pasted}
 use Rattle.reassembly.specs.declared.config.Config.{Config}
-use Rattle.words.specs.Channel.{SizedConfig, readConfig}
 use Rattle.queue.specs.declared.event.Event.{Event}
 use Rattle.queue.specs.declared.event.Given.{Given}
 use Rattle.state.specs.State.{State, refused}
@@ -17,7 +16,7 @@ use Rattle.receiver.specs.Next.{nextOf}
 use Rattle.state.specs.Start.{startFrom}
 use Rattle.receiver.specs.Show.{showOf}
 use Rattle.calls.specs.Bounds.{areWithin}
-use Rattle.calls.specs.Settings.{most64, settingsMost, startBy}
+use Rattle.calls.specs.Settings.{most64, settingsMost, startBy, SizedConfig, configIn}
 use Rattle.queue.specs.Words.{memoryWord}
 use Rattle.calls.specs.Record.{recordWords, unitRecord, readPlace}
 use Rattle.calls.specs.Events.{Many, isGiven, isJoined, putEvent, nextCall, eventsOf, putEvents, eventsCall}
@@ -28,7 +27,7 @@ use Rattle.calls.specs.Show.{showCall}
 abbrev pub StartAnswer : State → List ℕ → Type 0
 StartAnswer st s = let r = startBy st s in
     ((areWithin s settingsMost ≡ false) × (r ≡ refused 91 st))
-    ⊎ ((areWithin s settingsMost ≡ true) × (r ≡ startFrom st (readConfig s 0)) × ((r .refusal ≡ 0 → ⊥) → r .state ≡ st))
+    ⊎ ((areWithin s settingsMost ≡ true) × (r ≡ startFrom st (configIn s)) × ((r .refusal ≡ 0 → ⊥) → r .state ≡ st))
 
 -- next: 92, then 22, else what next gives
 abbrev pub NextAnswer : State → List ℕ → List ℕ → List ℕ → Type 0

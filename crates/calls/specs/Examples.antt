@@ -10,7 +10,7 @@ use Rattle.wire.specs.Words.{putFrom}
 use Rattle.tmcc.specs.Layout.{blankLayout}
 use Rattle.watch.specs.Given.{firstFrom, lookupOf}
 use Rattle.reassembly.specs.Channel.{unheard}
-use Rattle.words.specs.Channel.{readIds, readConfig, readFields, readUnit, fieldWords, unitWords}
+use Rattle.words.specs.Channel.{readFields, readUnit, fieldWords, unitWords}
 use Rattle.intake.specs.Slot.{noted}
 use Rattle.queue.specs.declared.event.Memory.{Memory}
 use Rattle.queue.specs.declared.event.Memory.the-variants.{Packet, Collecting}
@@ -26,7 +26,7 @@ use Rattle.receiver.specs.Next.{readOn, readAll, nextOf}
 use Rattle.receiver.specs.Show.{showOf}
 use Rattle.queue.specs.Words.{memoryAt, memoryWord}
 use Rattle.calls.specs.Bounds.{areWithin}
-use Rattle.calls.specs.Settings.{most16, most64, settingsMost, startBy}
+use Rattle.calls.specs.Settings.{most16, most64, settingsMost, startBy, idsIn, configIn}
 use Rattle.calls.specs.Record.{noteRecord, unitRecord, eventRecord, readPlace, readEvent, unitMost, isUnitRecord}
 use Rattle.calls.specs.Events.{nextLeft, nextCall, eventsOf, putEvents, eventsCall}
 use Rattle.calls.specs.Show.{copied, showCall}
@@ -55,7 +55,7 @@ Starts =
     × (startBy (withOwed fresh true) (settings 1 2 1 4 7 0 0) .state ≡ fresh)
 
 starts : Starts
-unfolding areWithin settingsMost startBy startFrom startRefusal twice twiceBelow before lookupOf firstFrom readConfig readIds tab freshState
+unfolding areWithin settingsMost startBy startFrom startRefusal twice twiceBelow before lookupOf firstFrom idsIn configIn tab freshState
 starts = (refl, refl, refl, refl, refl, refl, refl, refl, refl, refl, refl, refl)
 
 -- a unit of three bytes from byte 5 of a memory

@@ -1,10 +1,11 @@
 -- Start's settings in words: stream id, CID, n, R, sixteen packet_ids, and twelve words for later settings, which are 0.
-use Prim.Native.Nat.{ℕ, _≤_}
+use Prim.Native.Nat.{ℕ, _+_, _%_, _<_, _≤_}
 use mathlib.Core.Path.{_≡_}
 use mathlib.Core.Bool.{true, false, cond}
 use mathlib.Core.List.{List, _∷_, _++_}
-use lib.ListN.{length, replicate}
-use Rattle.words.specs.Channel.{readConfig}
+use lib.ListN.{length, getD, replicate}
+use Rattle.wire.specs.Tab.{tab}
+use Rattle.reassembly.specs.declared.config.Config.{Config}
 use Rattle.state.specs.State.{State, Called, refused}
 use Rattle.state.specs.Start.{startFrom}
 use Rattle.calls.specs.Bounds.{areWithin, within-enough}
@@ -29,13 +30,33 @@ most64 = 18446744073709551615
 unfoldable pub settingsMost : List ℕ
 settingsMost = most16 ∷ most16 ∷ most64 ∷ most64 ∷ (replicate 16 most16 ++ replicate 12 0)
 
+-- what start is given: sixteen ids, and the rest
+unfoldable pub idsIn : List ℕ → List ℕ
+idsIn s = tab (λ k. getD s (4 + k) 0 % 65536) 16
+
+unfoldable pub configIn : List ℕ → Config
+configIn s =
+    record {
+      stream = getD s 0 0 % 65536;
+      cid = getD s 1 0 % 65536;
+      watch = record { ids = idsIn s; n = getD s 2 0 };
+      rules = record { limit = getD s 3 0 };
+    }
+
+-- what the types of a configuration keep to
+pub record SizedConfig (c : Config) : Type 0 where
+  pub stream : c .stream < 65536
+  pub cid : c .cid < 65536
+  pub count : length (c .watch .ids) ≡ 16
+  pub ids : (k : ℕ) → k < 16 → getD (c .watch .ids) k 0 < 65536
+
 -- 91 for settings of fewer than 32 words or with a word that its setting cannot have (docs/DECISIONS.md), before start's own refusals
 unfoldable pub startBy : State → List ℕ → Called
-startBy st s = cond (areWithin s settingsMost) (startFrom st (readConfig s 0)) (refused 91 st)
+startBy st s = cond (areWithin s settingsMost) (startFrom st (configIn s)) (refused 91 st)
 
 -- Laws.
 
-pub start-by : (st : State) (s : List ℕ) → areWithin s settingsMost ≡ true → startBy st s ≡ startFrom st (readConfig s 0)
+pub start-by : (st : State) (s : List ℕ) → areWithin s settingsMost ≡ true → startBy st s ≡ startFrom st (configIn s)
 unfolding startBy
 start-by st s e = rw e
 

@@ -15,10 +15,8 @@ use queue::event::Given;
 use queue::event::Memory;
 use receiver::next::next;
 use receiver::next::read_on;
-use state::places::CONFIG;
 use state::places::STATE_WORDS;
 use state::places::is_owed;
-use words::channel::load_config;
 
 // The number of a refused next, else 0.
 fn refusal(event: Event) -> u8
@@ -102,7 +100,6 @@ fn read_events(
     ensures { λ r. ⌜ EventsGiven (now (words .entry)) r (now (words .exit)) (now (collecting .exit)) (now (records .exit))
         (stateIn (now (words .entry))) (now (packet .entry)) (now (collecting .entry)) (now (records .entry)) ⌝ }
 {
-    let config = load_config(words, CONFIG);
     let room = records.len() / RECORD_WORDS;
     let mut n = 0;
     let mut at = 0;
@@ -110,7 +107,7 @@ fn read_events(
         if !is_owed(words) {
             return n;
         }
-        let event = read_on(config, words, packet, collecting);
+        let event = read_on(words, packet, collecting);
         if !is_given(event) {
             return n;
         }

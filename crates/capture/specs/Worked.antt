@@ -18,13 +18,14 @@ use Rattle.tlv.specs.Held.{endWithin, endBeyond, heldTotal, heldEnd, continuati
 use Rattle.mmtp.specs.Flow.{flowOf, compressedOf, behind, compressedHeader}
 use Rattle.mmtp.specs.Header.{headerOf, plain, payloadStart, fixedBytes, extensionBytes, extensionLength, startOf as payloadAt}
 use Rattle.watch.specs.Given.{lookupOf, firstFrom}
+use Rattle.watch.specs.Rising.{inserted, risingOf, searched, searchOf}
 use Rattle.mmtp.specs.Packet.{readingOf, headRead, lookedUp, bodyRead}
 use Rattle.mmtp.specs.Payload.{indicatorOf, fragmentTypeOf, mpuOf, signallingOf, parsedOf, counterFits, aggregationFits, unitsFit, tested, payloadOf}
 use Rattle.mmtp.specs.Unit.{fieldBytes, fieldsOf, singleFits, singleUnit, singleAt}
 use Rattle.reassembly.specs.Channel.{nextPsn, heard, gap, unheard}
 use Rattle.reassembly.specs.Join.{interrupted, begun, acted, joinOf}
 use Rattle.intake.specs.Slot.{cursorFrom, resumedAs, movedMem, continuedMem, resumedMem, copied, resumedOf, intakeOf, lostOf}
-use Rattle.delivery.specs.Packet.{arrivedAt, firstUnit, collected, giveOf, joinedOf}
+use Rattle.delivery.specs.Packet.{comesTo, firstUnit, collected, giveOf, joinedOf}
 use Rattle.queue.specs.Queue.{eventTaken}
 use Rattle.delivery.specs.Cursor.{turnOf, advancedOf, slotAdvanced, tailAdvanced, left}
 use Rattle.state.specs.Start.{before, twiceBelow, twice, freshState, startRefusal, startFrom}
@@ -79,7 +80,7 @@ unfolding be pasted partOf tab allBelow countBelow lastBelow dataBytes within us
     lookupOf firstFrom readingOf headRead lookedUp bodyRead indicatorOf fragmentTypeOf mpuOf signallingOf parsedOf counterFits
     aggregationFits unitsFit tested payloadOf fieldBytes fieldsOf singleFits singleUnit singleAt nextPsn heard gap unheard
     interrupted begun acted joinOf cursorFrom resumedAs movedMem continuedMem resumedMem copied resumedOf intakeOf lostOf
-    arrivedAt firstUnit collected giveOf joinedOf eventTaken turnOf advancedOf slotAdvanced tailAdvanced left before twiceBelow
+    comesTo searched searchOf inserted risingOf firstUnit collected giveOf joinedOf eventTaken turnOf advancedOf slotAdvanced tailAdvanced left before twiceBelow
     twice freshState startRefusal startFrom frameBusy frameOf lossOf lostFrameOf shortBy slotRefusal counted wrongLength slotOf
     lostSlotOf packetOf readOn readAll nextOf digits decimal field placeText carriedText unitLine idText noteLine refusedLine
     endLine letterOf slotSize sizeOf whole idsOf configOf freshSession queueWaits cursorWaits waitsBy callOf afterCall doneOf

@@ -21,10 +21,8 @@ use lines::line::put_refused;
 use lines::line::put_unit;
 use queue::event::Event;
 use receiver::next::read_on;
-use state::places::CONFIG;
 use state::places::STATE_WORDS;
 use state::places::is_owed;
-use words::channel::load_config;
 
 // Whether there is room for a longest line from `at` on.
 pub fn has_room(size: usize, at: usize) -> bool
@@ -122,11 +120,10 @@ fn drain(
     ensures { λ r. ⌜ Pours (now (words .entry)) r (now (words .exit)) (now (collecting .exit)) (now (out .exit))
         (pouredOf (sessionIn session (now (words .entry))) (now (packet .entry)) (now (collecting .entry)) (now (out .entry)) at) ⌝ }
 {
-    let config = load_config(words, CONFIG);
     let mut tally = session.tally;
     let mut place = at;
     while has_room(out.len(), place) {
-        let event = read_on(config, words, packet, collecting);
+        let event = read_on(words, packet, collecting);
         place = put_event(out, place, tally, event);
         tally = count(tally, event);
         if !is_line(event) {

@@ -10,14 +10,14 @@ use borrow.Author.Tests.{lt-ltb, le-ltb, le-leb, lt-leb, eq-eqb, ne-eqb, ltb-tru
 use lib.ListN.{length, getD}
 use lib.Dec.{eqb, ltb, leb}
 use Rattle.tmcc.specs.declared.layout.Pointers.{Pointers}
-use Rattle.reassembly.specs.declared.config.Config.{Config}
+use Rattle.words.specs.Config.{KeptConfig}
 use Rattle.state.specs.State.{State, Called, withFrame, withOwed, withIntake, refused, accepted}
 use Rattle.wire.specs.Choice.{passed, neither}
 use Rattle.intake.specs.Slot.{packetMemory, intakeOf}
 use Rattle.frames.specs.Frame.{lossOf}
 
 -- "packet memory under 21,433 bytes or collecting memory under n × R", by their lengths
-unfoldable pub shortBy : Config → ℕ → ℕ → Bool
+unfoldable pub shortBy : KeptConfig → ℕ → ℕ → Bool
 shortBy c packet collecting = ltb packet packetMemory || ltb collecting (c .watch .n * c .rules .limit)
 
 -- "20 none due; 21 next owed; 22"; 0 for none
@@ -75,7 +75,7 @@ lostSlotOf st packet collecting =
     cond (eqb r 0) (accepted (lossTaken (dueOwn st) st)) (refused r st)
 
 -- memories that are long enough, or not
-module _ (c : Config) (packet collecting : ℕ) where
+module _ (c : KeptConfig) (packet collecting : ℕ) where
   pub packet-short : packet < packetMemory → shortBy c packet collecting ≡ true
   unfolding shortBy
   packet-short h = rw (lt-ltb _ _ h)

@@ -7,7 +7,7 @@ use lib.ListN.{length, getD, set}
 use borrow.Author.Tests.{ltb-false}
 use lib.Dec.{ltb}
 use Rattle.wire.specs.Choice.{chosen, chosen-not, neither}
-use Rattle.reassembly.specs.declared.config.Config.{Config}
+use Rattle.words.specs.Config.{KeptConfig}
 use Rattle.reassembly.specs.Channel.{unheard}
 use Rattle.queue.specs.declared.event.Event.{Event as AnEvent}
 use Rattle.queue.specs.declared.event.Event.the-variants.{Nothing, Refused}
@@ -103,6 +103,6 @@ module _ (st : State) (p c : List ℕ) where
   unfolding nextOf
   next-reads h o = chosen-not (shortBy (st .config) (length p) (length c)) _ _ h ∙ chosen (st .owed) _ _ o
 
-pub short-room : (c : Config) (packet collecting : ℕ) → shortBy c packet collecting ≡ false → c .watch .n * c .rules .limit ≤ collecting
+pub short-room : (c : KeptConfig) (packet collecting : ℕ) → shortBy c packet collecting ≡ false → c .watch .n * c .rules .limit ≤ collecting
 unfolding shortBy
 short-room c packet collecting h = ltb-false collecting (c .watch .n * c .rules .limit) (neither (ltb packet packetMemory) _ h .1)

@@ -7,7 +7,7 @@ use mathlib.Core.List.{List}
 use native.Mathlib.Omega.{arith}
 use lib.ListN.{length, getD, set}
 use Rattle.wire.specs.Words.{Put, flagOf}
-use Rattle.reassembly.specs.declared.config.Config.{Config}
+use Rattle.words.specs.Config.{KeptConfig}
 use Rattle.reassembly.specs.Channel.{unheard}
 use Rattle.words.specs.Channel.{readChannel}
 use Rattle.intake.specs.Slot.{holding}
@@ -90,7 +90,7 @@ module _ (t v p c : List ℕ) where
       read-done (stateIn t) p c (x .found)
       ∙ ap (λ (s : State). answered Nothing s c) (sym (state-owed v 0 h ∙ ap (λ (s : State). withOwed s false) (x .past)))
 
-  pub reads-packet : (start end : ℕ) (w d : List ℕ) (g : Config) → Turned t p (Packet start end) v → stateIn t .config ≡ g
+  pub reads-packet : (start end : ℕ) (w d : List ℕ) (g : KeptConfig) → Turned t p (Packet start end) v → stateIn t .config ≡ g
       → Receives g v 30 47 p c start end w d → readAll (stateIn t) p c ≡ readAll (stateIn w) p d
   reads-packet start end w d g x e q =
       let st = stateIn t in

@@ -13,7 +13,6 @@ use frames::slot::is_short;
 use intake::held::Held;
 use queue::event::Event;
 use queue::waiting::take;
-use reassembly::config::Config;
 use state::places::CHANNELS;
 use state::places::CONFIG;
 use state::places::CURSOR;
@@ -21,7 +20,6 @@ use state::places::HELD;
 use state::places::OWED;
 use state::places::QUEUE;
 use state::places::STATE_WORDS;
-use words::channel::load_config;
 use words::cursor::load_cursor;
 use words::cursor::store_cursor;
 use words::cursor::store_held;
@@ -49,9 +47,9 @@ fn advance_in(words: &mut [u64], memory: &[u8]) -> Found
 }
 
 // Reads on until there is an event, or nothing waits.
-pub fn read_on(config: Config, words: &mut [u64], memory: &[u8], collecting: &mut [u8]) -> Event
-    requires { ⌜ (stateWords ≤ length (now words)) × (stateIn (now words) .config ≡ config)
-        × (config .watch .n * config .rules .limit ≤ length (now collecting)) ⌝ }
+pub fn read_on(words: &mut [u64], memory: &[u8], collecting: &mut [u8]) -> Event
+    requires { ⌜ (stateWords ≤ length (now words))
+        × (stateIn (now words) .config .watch .n * stateIn (now words) .config .rules .limit ≤ length (now collecting)) ⌝ }
     ensures { λ r. ⌜ Reads (now (words .entry)) r (now (words .exit)) (now (collecting .exit))
         (readAll (stateIn (now (words .entry))) (now (memory .entry)) (now (collecting .entry))) ⌝ }
 {
@@ -64,8 +62,8 @@ pub fn read_on(config: Config, words: &mut [u64], memory: &[u8], collecting: &mu
         match found {
             Found::Event(event) => return event,
             Found::Packet(start, end) => receive(
-                config,
                 words,
+                CONFIG,
                 QUEUE,
                 CHANNELS,
                 memory,
@@ -96,6 +94,5 @@ pub fn next(words: &mut [u64], memory: &[u8], collecting: &mut [u8]) -> Event
     if words[OWED] == 0 {
         return Event::Nothing;
     }
-    let config = load_config(words, CONFIG);
-    read_on(config, words, memory, collecting)
+    read_on(words, memory, collecting)
 }

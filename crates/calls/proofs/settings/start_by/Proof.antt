@@ -21,8 +21,8 @@ returns-2 c =
       clean = λ z. absurd (omega arith);
     }
 
-load-config-requires : tie.Need-load-config-requires
-load-config-requires c κs =
+config-of-requires : tie.Need-config-of-requires
+config-of-requires c κs =
     let l = settings-length _ (sym (c .before .are-settings .ensures) ∙ not-false _ (c .if2 .left)) in
     omega arith
 
@@ -31,7 +31,7 @@ returns-3 c =
     let s = c .before .before in
     let e = s .before .before .before in
     let f = sym (e .before .are-settings .ensures) ∙ not-false _ (e .if2 .left) in
-    rw (start-by _ _ f, ← s .before .before .load-config .ensures) (s .start .ensures)
+    rw (start-by _ _ f, ← s .before .before .config-of .ensures) (s .start .ensures)
 
 pub start-by-spec : {M : Type 1} → statement M
 start-by-spec =
@@ -40,7 +40,7 @@ start-by-spec =
     returns
     (λ c κs. search needs)
     returns-2
-    load-config-requires
+    config-of-requires
     (λ c κs. search needs)
     (λ c. search needs)
     returns-3)

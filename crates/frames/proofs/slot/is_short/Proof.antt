@@ -2,7 +2,8 @@
 use mathlib.Core.Path.{sym}
 use native.Mathlib.Omega.{arith}
 use native.Mathlib.Nat.{mul-zero}
-use Rattle.words.specs.Channel.{readConfig}
+use Rattle.watch.specs.Words.{risingIn}
+use Rattle.words.specs.Config.{readConfig}
 use Rattle.frames.specs.Slot.{packet-short, long-enough, short-by-quotient}
 use Rattle.state.specs.Words.{stateIn}
 use borrow.Author.Needs.{needs}
@@ -13,11 +14,11 @@ returns : tie.Need-returns
 returns c = sym (packet-short _ _ _ (c .if1 .taken))
 
 returns-2 : tie.Need-returns-2
-unfolding stateIn readConfig
+unfolding stateIn readConfig risingIn
 returns-2 c = sym (long-enough _ _ _ (c .before .before .before .if1 .left) (rw (c .if2 .taken, mul-zero) (omega arith)))
 
 returns-3 : tie.Need-returns-3
-unfolding stateIn readConfig
+unfolding stateIn readConfig risingIn
 returns-3 c = sym (short-by-quotient _ _ _ (c .before .before .before .if1 .left) (c .if2 .left))
 
 pub is-short-spec : {M : Type 1} → statement M

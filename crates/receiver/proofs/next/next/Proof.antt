@@ -6,7 +6,7 @@ use native.Mathlib.Omega.{arith}
 use Rattle.delivery.specs.Cursor.{left}
 use Rattle.queue.specs.declared.event.Event.the-variants.{Refused}
 use Rattle.queue.specs.declared.event.Event.{Event}
-use Rattle.state.specs.Lent.{owed-on, owed-off, config-in}
+use Rattle.state.specs.Lent.{owed-on, owed-off}
 use Rattle.state.specs.Leaves.{answers-short, answers-kept}
 use Rattle.receiver.specs.Next.{NextOut, readAll, next-short, next-idle, next-reads, short-room}
 use Rattle.state.specs.State.{State}
@@ -37,14 +37,13 @@ returns-3 c =
 
 read-on-requires : tie.Need-read-on-requires
 read-on-requires c κs =
-    let d = c .before .before .before .before .before .before in
-    let e = config-in _ ∙ sym (c .before .before .load-config .ensures) in
-    (d .before .before .before .if1 .left, e, rw e at (short-room _ _ _ (sym (d .before .is-short .ensures) ∙ d .if2 .left)))
+    let d = c .before .before .before .before in
+    (d .before .before .before .if1 .left, short-room _ _ _ (sym (d .before .is-short .ensures) ∙ d .if2 .left))
 
 returns-4 : tie.Need-returns-4
 returns-4 c =
     let r = c .before .before .before .before .read-on .ensures in
-    let o = c .before .before .before .before .before .before .before .before .before in
+    let o = c .before .before .before .before .before .before .before in
     let d = o .before .before in
     record {
       short = λ h. absurd (omega (arith, d .before .before .before .if1 .left));
@@ -64,7 +63,6 @@ next-spec =
     (λ c. search needs)
     (λ c. search needs)
     returns-3
-    (λ c κs. search needs)
     read-on-requires
     (λ c. search needs)
     (λ c. search needs)

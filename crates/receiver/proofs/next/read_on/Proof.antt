@@ -7,7 +7,7 @@ use lib.ListN.{length, length-set}
 use Rattle.delivery.specs.declared.cursor.Found.{Found}
 use Rattle.delivery.specs.Cursor.{left}
 use Rattle.receiver.specs.Turns.{Turned, turned-event, turned-on, turned-less, turned-config, reads-event, reads-packet, reads-tail, reads-done}
-use Rattle.state.specs.Lent.{state-held, state-packet, placed-low}
+use Rattle.state.specs.Lent.{state-held, state-packet, placed-low, config-in}
 use Rattle.state.specs.Clean.{exact-none, exact-on, exact-held, exact-queue, exact-owed, exact-packet}
 use Rattle.receiver.specs.Next.{readAll}
 use Rattle.state.specs.Words.{stateIn, Exact}
@@ -17,12 +17,12 @@ use Rattle.receiver.proofs.next.read_on.Statement.{statement}
 use Rattle.receiver.proofs.next.read_on.Tie as tie
 
 abbrev Inv-loop : tie.InvT-loop
-Inv-loop config words₀ memory collecting₀ words collecting =
+Inv-loop words₀ memory collecting₀ words collecting =
     (readAll (stateIn words) memory collecting ≡ readAll (stateIn words₀) memory collecting₀) × Exact words₀ words
-    × (length collecting ≡ length collecting₀) × (stateIn words .config ≡ config)
+    × (length collecting ≡ length collecting₀) × (stateIn words .config ≡ stateIn words₀ .config)
 
 abbrev μ-loop : tie.MeasureT-loop
-μ-loop config words₀ memory collecting₀ words collecting = left (stateIn words .cursor)
+μ-loop words₀ memory collecting₀ words collecting = left (stateIn words .cursor)
 
 -- from a place back to the call of take, to the loop's front, and to the function's
 abbrev took : tie.After-advance-in Inv-loop μ-loop → tie.After-take Inv-loop μ-loop
@@ -56,7 +56,7 @@ module _ (d : tie.After-advance-in Inv-loop μ-loop) where
   enough = rw (same-words .size) (entry (front (took d)) .pre .0)
 
 loop-holds : tie.Need-loop-holds Inv-loop μ-loop
-loop-holds c = (refl, exact-none _, refl, c .before .before .before .pre .1)
+loop-holds c = (refl, exact-none _, refl, refl)
 
 take-requires : tie.Need-take-requires Inv-loop μ-loop
 take-requires c κs =
@@ -100,7 +100,9 @@ receive-requires : tie.Need-receive-requires Inv-loop μ-loop
 receive-requires c κs =
     let d = c .before .before .before .before .before .before .before in
     let l = front (took d) in
-    (omega arith, omega (arith, enough d), rw (l .loop .inv .2) (entry l .pre .2))
+    let x = comes-to d _ (c .before .before .before .found2 .given .1) in
+    let e = sym (config-in (d .advance-in .last .0)) ∙ turned-config _ _ _ _ x ∙ l .loop .inv .3 in
+    (omega arith, omega arith, omega (arith, enough d), rw (e, l .loop .inv .2) (entry l .pre .1))
 
 loop-less : tie.Need-loop-less Inv-loop μ-loop
 loop-less c =
@@ -117,7 +119,7 @@ loop-again c =
     let l = front (took d) .loop in
     let x = comes-to d _ (f .found2 .given .1) in
     let e = r .receive .ensures in (
-      sym (reads-packet _ _ _ (l .collecting) _ _ _ _ _ x (l .inv .3) e) ∙ l .inv .0,
+      sym (reads-packet _ _ _ (l .collecting) _ _ _ _ _ x (sym (turned-config _ _ _ _ x) ∙ config-in _) e) ∙ l .inv .0,
       exact-on _ _ _ (same-words d)
           (exact-packet _ _ _ (placed-low _ _ _ _ _ _ _ _ e) (e .size) (e .elsewhere) (e .queue-clean) (e .channel-clean)),
       r .receive .kept .1 .1 .1 .1 .1 .0 ∙ l .inv .2,
