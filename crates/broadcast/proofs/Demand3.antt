@@ -17,6 +17,7 @@ use Rattle.reassembly.specs.declared.config.Config.{Config}
 use Rattle.reassembly.specs.declared.channel.Channel.{Channel}
 use Rattle.reassembly.specs.Channel.{unheard}
 use Rattle.reassembly.specs.Run.{Event as Account-event, note as account-note, unit as account-unit, fresh, Clean, units}
+use Rattle.words.specs.Config.{keptConfig}
 use Rattle.state.specs.State.{State, accepted as acceptedAs, refused as refusedWith, withFrame}
 use Rattle.tmcc.specs.Block.{decodeOf}
 use Rattle.intake.specs.Slot.{packetMemory}
@@ -93,20 +94,20 @@ pub start-at : (cfg : Config) (p c : List ℕ) → startOf cfg .refusal ≡ 0 �
 unfolding freshState unheard
 start-at cfg p c e hp hc =
     let s = start-accepted cfg e in
-    let n = starts cfg (s .0) .few in
+    let n = starts cfg (s .0) in
     rw (s .1)
     (record {
       tracks = record {
         config = refl;
         packet-long = hp;
         collecting-long = hc;
-        places = n;
+        starts = n;
         channels = refl;
         paid = refl;
         cursor = refl;
         queue = (refl, refl, refl);
         held = refl;
-        lanes = λ k h. fresh-lane (cfg .rules) c k (omega arith);
+        lanes = λ k h. fresh-lane (cfg .rules) c k (omega (arith, n .few));
       };
       short = tt;
       frame = refl;
@@ -145,7 +146,7 @@ unfolding did freshState
 slot-tells cfg p c b e h =
     let st = startOf cfg .state in
     let l = ready (frameOf st b .state) (length p) (length c) h in
-    let g : frameOf st b .state .config ≡ cfg = frame-config st b ∙ ap (λ (s : State). s .config) (start-accepted cfg e .1) in
+    let g : frameOf st b .state .config ≡ keptConfig cfg = frame-config st b ∙ ap (λ (s : State). s .config) (start-accepted cfg e .1) in
     (l .packets, rw g at (l .collects))
 
 -- the first slot of an undamaged reading was accepted

@@ -15,6 +15,7 @@ use Rattle.queue.specs.declared.event.Event.the-variants.{Nothing, Note, Unit, 
 use Rattle.delivery.specs.declared.cursor.Found.{Found}
 use Rattle.delivery.specs.declared.cursor.Found.the-variants.{Event as AnEvent, Packet, Tail, Done}
 use Rattle.intake.specs.declared.held.Cursor.{Cursor}
+use Rattle.words.specs.Config.{keptConfig}
 use Rattle.state.specs.State.{Frame, State, withSlot, withQueue}
 use Rattle.queue.specs.Waiting.{Queue}
 use Rattle.intake.specs.Slot.{packetMemory, holding}
@@ -118,7 +119,7 @@ module _ {A : Type 0} (cfg : Config) (fr : Frame) (p : List ℕ)
       record {
         config = e ∙ l .config;
         channels = ap length k ∙ l .channels;
-        places = l .places;
+        starts = l .starts;
         collecting-long = l .collecting-long;
         lanes = λ i h. rw k (l .lanes i h);
       }
@@ -236,7 +237,7 @@ module _ {A : Type 0} (cfg : Config) (fr : Frame) (p : List ℕ)
             config = o .lanes .config;
             packet-long = long;
             collecting-long = o .lanes .collecting-long;
-            places = o .lanes .places;
+            starts = o .lanes .starts;
             channels = o .lanes .channels;
             paid = refl;
             cursor = a .stays ∙ a .over;
@@ -280,7 +281,7 @@ module _ {A : Type 0} (cfg : Config) (fr : Frame) (p : List ℕ)
       taken-told (λ s d. readOn n s p d) n (read-told n) (t .event) es st c (t .queue) h o (g .0) (g .1)
 
   -- a call of next
-  next-reads : (st : State) (c : List ℕ) → st .config ≡ cfg → st .owed ≡ true → cfg .watch .n * cfg .rules .limit ≤ length c
+  next-reads : (st : State) (c : List ℕ) → st .config ≡ keptConfig cfg → st .owed ≡ true → cfg .watch .n * cfg .rules .limit ≤ length c
       → nextOf st p c ≡ readOn (suc (left (st .cursor))) st p c
   unfolding nextOf readAll shortBy
   next-reads st c e o h = rw (e, o, le-ltb _ _ long, le-ltb _ _ h)

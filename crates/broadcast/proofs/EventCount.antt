@@ -7,6 +7,7 @@ use native.Mathlib.Omega.{arith}
 use borrow.Author.Tests.{eqb-false}
 use lib.Dec.{eqb}
 use lib.ListN.{length, drop, length-drop, length-append, length-map}
+use Rattle.watch.specs.Given.{lookupOf}
 use Rattle.mmtp.specs.declared.flow.Flow.{Flow}
 use Rattle.mmtp.specs.declared.flow.Flow.the-variants.{Silent as OtherFlow, Noted as NotedFlow, Mmtp}
 use Rattle.mmtp.specs.declared.packet.Reading.{Reading}
@@ -115,7 +116,7 @@ module _ {A : Type 0} (cfg : Config) (f : ℕ → Lane A) (a : A) where
   flow-count b (NotedFlow n) e = omega arith
   flow-count b (Mmtp n) e =
       let i = mmtp-place b (cfg .cid) n e in
-      let r = read-count (drop n b) (readingOf (drop n b) (cfg .watch)) in
+      let r = read-count (drop n b) (readingOf (drop n b) (lookupOf (cfg .watch))) in
       omega (arith, length-drop n b, i .1, i .2)
 
 pub few-events : FewEvents

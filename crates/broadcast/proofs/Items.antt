@@ -63,7 +63,7 @@ module _ {A : Type 0} (cfg : Config) where
         lanes = record {
           config = d .config ∙ k .config;
           channels = ap length (d .channels) ∙ k .channels;
-          places = k .places;
+          starts = k .starts;
           collecting-long = k .collecting-long;
           lanes = λ i h. rw (d .channels) (k .lanes i h);
         };

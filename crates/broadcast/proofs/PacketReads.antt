@@ -1,6 +1,6 @@
 -- One packet over the memories stands for one packet of the account.
 use Prim.Native.Nat.{ℕ, _+_, _-_, _*_, _≤_, _<_}
-use mathlib.Core.Path.{_≡_, refl, _∙_, subst}
+use mathlib.Core.Path.{_≡_, refl, sym, _∙_, ap, subst}
 use mathlib.Core.Bool.{Bool, true, false, cond}
 use mathlib.Core.List.{List, [], _∷_, _++_, map}
 use native.Mathlib.Omega.{arith}
@@ -13,6 +13,7 @@ use Rattle.mmtp.specs.declared.flow.Flow.{Flow}
 use Rattle.mmtp.specs.declared.flow.Flow.the-variants.{Silent as OtherFlow, Noted as NotedFlow, Mmtp}
 use Rattle.mmtp.specs.declared.packet.Reading.{Reading}
 use Rattle.mmtp.specs.declared.packet.Reading.the-variants.{Silent as Unwatched, Noted as NotedPacket, Good as GoodPacket}
+use Rattle.watch.specs.Given.{lookupOf, lookup-at}
 use Rattle.mmtp.specs.Notes as packet
 use Rattle.mmtp.specs.Notes.{not-none}
 use Rattle.mmtp.specs.Flow.{flowOf, mmtp-place}
@@ -28,11 +29,14 @@ use Rattle.reassembly.specs.Notes.{numberOf}
 use Rattle.reassembly.specs.Join.{notesOf}
 use Rattle.reassembly.specs.Run.{Input, Event, note as account-note, Lane, laneAfter, eventsOf, step, withLane}
 use Rattle.queue.specs.declared.located.Located.{Located}
+use Rattle.delivery.specs.declared.packet.Arrived.{Arrived}
 use Rattle.delivery.specs.declared.packet.Arrived.the-variants.{Good}
 use Rattle.queue.specs.Waiting.{Queue}
+use Rattle.words.specs.Config.{KeptConfig}
 use Rattle.state.specs.State.{State, withQueue, withChannels}
+use Rattle.state.specs.Watching.{watch-given}
 use Rattle.queue.specs.Queue.{empty}
-use Rattle.delivery.specs.Packet.{bytesAt, unitIn, baseOf, stepOf, queueOf, joinedOf, arrivedAt, readBy, flowBy}
+use Rattle.delivery.specs.Packet.{bytesAt, unitIn, baseOf, stepOf, queueOf, joinedOf, comesTo, arrivedAt, arrived-same, readBy, flowBy}
 use Rattle.receiver.specs.Next.{arrivedBy, packetOf}
 use Rattle.broadcast.specs.Account.{
   After,
@@ -69,10 +73,10 @@ module _ {A : Type 0} (id : ℕ) (g : List Shown) (es : List (Event A)) (h : g �
   notes-first n false true = rw h
   notes-first n false false = rw h
 
-module _ {A : Type 0} (st : State) (p c : List ℕ) (f : ℕ → Lane (List A)) (a : List A)
-    (L : LanesAre (st .config) st c f) (E : QueueEmpty (st .queue)) where
+module _ {A : Type 0} (cfg : Config) (st : State) (p c : List ℕ) (f : ℕ → Lane (List A)) (a : List A)
+    (L : LanesAre cfg st c f) (E : QueueEmpty (st .queue)) where
   abbrev Stood : State × List ℕ → After (List A) → Type 0
-  Stood r w = Stands (st .config) st (r .0) p c (r .1) w
+  Stood r w = Stands cfg st (r .0) p c (r .1) w
 
   silent-stands : Stood (st, c) (record { lanes = f; events = [] })
   silent-stands =
@@ -94,9 +98,9 @@ module _ {A : Type 0} (st : State) (p c : List ℕ) (f : ℕ → Lane (List A)) 
   noted-stands n id z =
       record {
         lanes = record {
-          config = refl;
+          config = L .config;
           channels = L .channels;
-          places = L .places;
+          starts = L .starts;
           collecting-long = L .collecting-long;
           lanes = L .lanes;
         };
@@ -110,12 +114,12 @@ module _ {A : Type 0} (st : State) (p c : List ℕ) (f : ℕ → Lane (List A)) 
       }
 
   module _ (l : Located) (fit : unitsFit (bytesAt l p) (l .packet .payload) ≡ true)
-      (within : l .packet .place < st .config .watch .n) where
+      (within : l .packet .place < cfg .watch .n) where
     abbrev k : ℕ
     k = l .packet .place
 
     abbrev rules : Rules
-    rules = st .config .rules
+    rules = cfg .rules
 
     abbrev ch : Channel
     ch = getD (st .channels) k unheard
@@ -134,7 +138,7 @@ module _ {A : Type 0} (st : State) (p c : List ℕ) (f : ℕ → Lane (List A)) 
     steps = rw (L .lanes k within .0)
 
     room : k * rules .limit + rules .limit ≤ length c
-    room = omega (arith, regions (rules .limit) k (st .config .watch .n) within, L .collecting-long)
+    room = omega (arith, regions (rules .limit) k (cfg .watch .n) within, L .collecting-long)
 
     did : Does rules l p c a (lane .labels) (f k .bytes) (x .piece .indicator) j
     did =
@@ -144,12 +148,12 @@ module _ {A : Type 0} (st : State) (p c : List ℕ) (f : ℕ → Lane (List A)) 
     abbrev c' : List ℕ
     c' = collects j l p c rules
 
-    lanes-by : (i : ℕ) → i < st .config .watch .n → (t : Bool) → eqb i k ≡ t
+    lanes-by : (i : ℕ) → i < cfg .watch .n → (t : Bool) → eqb i k ≡ t
         → LaneIs (getD (set (st .channels) k (j .channel)) i unheard) i rules c' (cond t lane (f i))
     lanes-by i h true e =
         let q = eqb-true i k e in
         let s : getD (set (st .channels) k (j .channel)) k unheard ≡ j .channel =
-        getD-set-same (st .channels) k (j .channel) unheard (omega (arith, L .channels, L .places, within)) in
+        getD-set-same (st .channels) k (j .channel) unheard (omega (arith, L .channels, L .starts .few, within)) in
         rw (q, s) (refl, did .collecting)
     lanes-by i h false e =
         let q = eqb-false i k e in
@@ -165,9 +169,9 @@ module _ {A : Type 0} (st : State) (p c : List ℕ) (f : ℕ → Lane (List A)) 
     good-stands =
         record {
           lanes = record {
-            config = refl;
+            config = L .config;
             channels = length-set (st .channels) k (j .channel) ∙ L .channels;
-            places = L .places;
+            starts = L .starts;
             collecting-long = rw (did .size) (L .collecting-long);
             lanes = λ i h. lanes-by i h (eqb i k) refl;
           };
@@ -182,40 +186,47 @@ module _ {A : Type 0} (st : State) (p c : List ℕ) (f : ℕ → Lane (List A)) 
 
     -- as the account reads it
     joined-stands : Stood (arrivedBy (Good l) st p c)
-        (afterRead (st .config) (input (inputFrom (l .packet) (piecesOf (bytesAt l p) (l .packet .payload)))) f a)
+        (afterRead cfg (input (inputFrom (l .packet) (piecesOf (bytesAt l p) (l .packet .payload)))) f a)
     unfolding joinedOf
-    joined-stands = rw (input-at l p fit, steps) good-stands
+    joined-stands =
+        subst
+        (λ (r : Rules). let j = joinedOf ch l p c r in
+        Stood (withQueue (withChannels st (set (st .channels) k (j .0 .channel))) (j .0 .queue), j .1)
+        (afterRead cfg (input (inputFrom (l .packet) (piecesOf (bytesAt l p) (l .packet .payload)))) f a))
+        (ap (λ (g : KeptConfig). g .rules) (sym (L .config))) (rw (input-at l p fit, steps) good-stands)
 
   -- an MMTP packet with the bytes m
   read-stands : (m : List ℕ) (start end : ℕ) → partOf p start (end - start) ≡ m
-      → (r : Reading) → readingOf m (st .config .watch) ≡ r
-      → Stood (arrivedBy (readBy r start end) st p c) (afterRead (st .config) (accountRead r m) f a)
+      → (r : Reading) → readingOf m (lookupOf (cfg .watch)) ≡ r
+      → Stood (arrivedBy (readBy r start end) st p c) (afterRead cfg (accountRead r m) f a)
   read-stands m start end e Unwatched q = silent-stands
   read-stands m start end e (NotedPacket n id) q = noted-stands (packet.numberOf n) id (not-none n)
   read-stands m start end e (GoodPacket pk) q =
       let l : Located = record { packet = pk; start = start; end = end } in
-      let w = packet-is m (st .config .watch) pk q in
+      let w = packet-is m (lookupOf (cfg .watch)) pk q in
       let y = payload-read m _ _ (pk .payload) (w .reads) in
       let fit : unitsFit (bytesAt l p) (pk .payload) ≡ true = rw e (y .units) in
-      rw (← e) (joined-stands l fit (packet-place m (st .config .watch) pk q .1))
+      rw (← e) (joined-stands l fit (lookup-at (cfg .watch) _ _ (packet-place m (lookupOf (cfg .watch)) pk q) .1))
 
   -- a TLV packet from `s` to `e`
-  flow-stands : (s e : ℕ) → s ≤ e → e ≤ length p → (fl : Flow) → flowOf (partOf p s (e - s)) (st .config .cid) ≡ fl
+  flow-stands : (s e : ℕ) → s ≤ e → e ≤ length p → (fl : Flow) → flowOf (partOf p s (e - s)) (cfg .cid) ≡ fl
       → let b = partOf p s (e - s) in
-      Stood (arrivedBy (flowBy fl (st .config) b s e) st p c) (afterRead (st .config) (accountFlow fl (st .config) b) f a)
+      Stood (arrivedBy (flowBy fl (lookupOf (cfg .watch)) b s e) st p c) (afterRead cfg (accountFlow fl cfg b) f a)
   flow-stands s e se el OtherFlow q = silent-stands
   flow-stands s e se el (NotedFlow n) q = noted-stands (packet.numberOf n) 0 (not-none n)
   flow-stands s e se el (Mmtp n) q =
       let b = partOf p s (e - s) in
-      let i = mmtp-place b (st .config .cid) n q in
+      let i = mmtp-place b (cfg .cid) n q in
       let z = length-part p s (e - s) (omega arith) in
       let m = drop n b in
-      read-stands m (s + n) e (part-from p s e n (omega (arith, i .2)) el) (readingOf m (st .config .watch)) refl
+      read-stands m (s + n) e (part-from p s e n (omega (arith, i .2)) el) (readingOf m (lookupOf (cfg .watch))) refl
 
 pub packet-does : PacketDoes
-unfolding packetOf arrivedAt readOf
+unfolding packetOf readOf comesTo
 packet-does A cfg st p c s e f a se el L E =
     let b = partOf p s (e - s) in
-    let r = packetOf st p c s e in
-    subst (λ (g : Config). LanesAre g st c f → Stands g st (r .0) p c (r .1) (afterRead g (readOf g b) f a)) (L .config)
-    (λ (M : LanesAre (st .config) st c f). flow-stands st p c f a M E s e se el (flowOf b (st .config .cid)) refl) L
+    let q : arrivedAt (st .config) p s e ≡ comesTo (cfg .cid) (lookupOf (cfg .watch)) p s e =
+    ap (λ (g : KeptConfig). arrivedAt g p s e) (L .config) ∙ arrived-same _ _ _ p s e (watch-given cfg (L .starts)) in
+    subst
+    (λ (x : Arrived). Stands cfg st (arrivedBy x st p c .0) p c (arrivedBy x st p c .1) (afterRead cfg (readOf cfg b) f a))
+    (sym q) (flow-stands cfg st p c f a L E s e se el (flowOf b (cfg .cid)) refl)

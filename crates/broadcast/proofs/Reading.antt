@@ -114,7 +114,7 @@ module _ (cfg : Config) where
           config = k .config;
           packet-long = k .packet-long;
           collecting-long = k .collecting-long;
-          places = k .places;
+          starts = k .starts;
           channels = k .channels;
           paid = k .paid;
           cursor = k .cursor;

@@ -15,6 +15,7 @@ use Rattle.tlv.specs.Run.{Arrival, State as Slot-state, lost, step, run, stateA
 use Rattle.reassembly.specs.declared.config.Config.{Config}
 use Rattle.reassembly.specs.Run.{Lane, fresh}
 use Rattle.intake.specs.Slot.{packetMemory}
+use Rattle.words.specs.Config.{keptConfig}
 use Rattle.state.specs.State.{Frame as ReceiverFrame, State, accepted as acceptedAs, refused as refusedWith}
 use Rattle.queue.specs.declared.event.Event.the-variants.{Nothing, Refused}
 use Rattle.receiver.specs.Next.{answered, readOn, readAll, nextOf}
@@ -286,7 +287,7 @@ loss-tells : (cfg : Config) (p c : List ℕ) → startOf cfg .refusal ≡ 0
 unfolding did freshState
 loss-tells cfg p c s l =
     let st = startOf cfg .state in
-    let g : lostFrameOf st .state .config ≡ cfg = loss-config st ∙ ap (λ (x : State). x .config) (start-accepted cfg s .1) in
+    let g : lostFrameOf st .state .config ≡ keptConfig cfg = loss-config st ∙ ap (λ (x : State). x .config) (start-accepted cfg s .1) in
     (l .0, rw g at (l .1))
 
 module _ (cfg : Config) (s : startOf cfg .refusal ≡ 0) (d : Damage) (p c : List ℕ) (xs : List Made) where

@@ -4,6 +4,7 @@ use Prim.Native.Nat.{ℕ}
 use mathlib.Core.Bool.{cond}
 use mathlib.Core.List.{List, [], _∷_, _++_, map}
 use lib.ListN.{length, drop}
+use Rattle.watch.specs.Given.{lookupOf}
 use Rattle.mmtp.specs.declared.flow.Flow.{Flow}
 use Rattle.mmtp.specs.declared.flow.Flow.the-variants.{Silent as OtherFlow, Noted as NotedFlow, Mmtp}
 use Rattle.mmtp.specs.declared.packet.Packet.{Packet}
@@ -61,7 +62,7 @@ readBy (Good p) m = input (inputFrom p (piecesOf m (p .payload)))
 abbrev pub flowBy : Flow → Config → List ℕ → Read
 flowBy OtherFlow c b = silent
 flowBy (NotedFlow n) c b = noted (numberOf n) 0
-flowBy (Mmtp n) c b = readBy (readingOf (drop n b) (c .watch)) (drop n b)
+flowBy (Mmtp n) c b = readBy (readingOf (drop n b) (lookupOf (c .watch))) (drop n b)
 
 -- a TLV packet, read
 unfoldable pub readOf : Config → List ℕ → Read

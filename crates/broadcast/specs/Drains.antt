@@ -16,7 +16,9 @@ use Rattle.reassembly.specs.Run.{Content, Event as Account-event, note as accou
 use Rattle.queue.specs.declared.event.Event.the-variants.{Nothing, Note, Unit}
 use Rattle.queue.specs.declared.event.Given.{Given}
 use Rattle.intake.specs.declared.held.Held.{Held}
+use Rattle.words.specs.Config.{keptConfig}
 use Rattle.state.specs.State.{State}
+use Rattle.state.specs.Start.{Starts}
 use Rattle.intake.specs.Slot.{packetMemory, noted, heldBytes}
 use Rattle.queue.specs.Queue.{empty}
 use Rattle.receiver.specs.Next.{nextOf}
@@ -62,10 +64,10 @@ LaneIs ch k rules c l = (l .channel ≡ ch) × OpenIs (ch .phase) k rules (ch .c
 
 -- the receiver's state and memories, nothing being owed, stand for the state of the slots and of all packet_ids
 pub record Tracks {A : Type 0} (cfg : Config) (st : State) (p c : List ℕ) (tl : Slot-state A) (f : ℕ → Lane (List A)) : Type 0 where
-  pub config : st .config ≡ cfg
+  pub config : st .config ≡ keptConfig cfg
   pub packet-long : packetMemory ≤ length p
   pub collecting-long : cfg .watch .n * cfg .rules .limit ≤ length c
-  pub places : cfg .watch .n ≤ 16
+  pub starts : Starts cfg
   pub channels : length (st .channels) ≡ 16
   pub paid : st .owed ≡ false
   pub cursor : st .cursor ≡ noted 0

@@ -12,7 +12,9 @@ use Rattle.reassembly.specs.Run.{Lane}
 use Rattle.queue.specs.declared.event.Event.{Event}
 use Rattle.queue.specs.declared.event.Event.the-variants.{Nothing, Note, Unit, Refused}
 use Rattle.queue.specs.Waiting.{Give, Nothing as NoUnit, One, Many, Queue}
+use Rattle.words.specs.Config.{keptConfig}
 use Rattle.state.specs.State.{State}
+use Rattle.state.specs.Start.{Starts}
 use Rattle.queue.specs.Queue.{empty, eventTaken}
 use Rattle.receiver.specs.Next.{packetOf}
 use Rattle.broadcast.specs.Account.{After, readOf, afterRead}
@@ -36,9 +38,9 @@ QueueGood q p = GiveGood (q .give) p
 
 -- the collecting memory has its places, and each packet_id's state and bytes are those of its lane
 pub record LanesAre {A : Type 0} (cfg : Config) (st : State) (c : List ℕ) (f : ℕ → Lane (List A)) : Type 0 where
-  pub config : st .config ≡ cfg
+  pub config : st .config ≡ keptConfig cfg
   pub channels : length (st .channels) ≡ 16
-  pub places : cfg .watch .n ≤ 16
+  pub starts : Starts cfg
   pub collecting-long : cfg .watch .n * cfg .rules .limit ≤ length c
   pub lanes : (k : ℕ) → k < cfg .watch .n → LaneIs (getD (st .channels) k unheard) k (cfg .rules) c (f k)
 

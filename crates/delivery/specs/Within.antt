@@ -9,6 +9,7 @@ use borrow.Author.Tests.{ltb-false}
 use lib.ListN.{length, drop, length-drop}
 use lib.Dec.{ltb}
 use Rattle.wire.specs.Memory.{partOf, length-pasted}
+use Rattle.watch.specs.declared.given.Found.the-variants.{At}
 use Rattle.watch.specs.Rising.{searchOf}
 use Rattle.watch.specs.Order.{search-at}
 use Rattle.mmtp.specs.declared.flow.Flow.{Flow}
@@ -73,6 +74,7 @@ first-inside m y = first-by m y (y .aggregated)
 pub record Watched (c : KeptConfig) (l : Located) : Type 0 where
   pub low : l .packet .place < 16
   pub listed : l .packet .place < c .watch .n
+  pub found : searchOf (c .watch) (l .packet .«packet_id») ≡ At (l .packet .place)
 
 module _ (c : KeptConfig) (p : List ℕ) (start end : ℕ) where
   reading-place : (b : List ℕ) (r : Reading) (from : ℕ) (l : Located) → readingOf b (searchOf (c .watch)) ≡ r
@@ -81,8 +83,9 @@ module _ (c : KeptConfig) (p : List ℕ) (start end : ℕ) where
   reading-place b (NotedPacket n id) from l e q = let z : _≡_ {A = ℕ} 0 1 = cc in absurd (omega arith)
   reading-place b (GoodPacket k) from l e q =
       let r : record { packet = k; start = from; end = end } ≡ l = cc in
-      let w = search-at (c .watch) (k .«packet_id») (k .place) (packet-place b (searchOf (c .watch)) k e) in
-      rw (← r) (record { low = w .0; listed = w .1 })
+      let f = packet-place b (searchOf (c .watch)) k e in
+      let w = search-at (c .watch) (k .«packet_id») (k .place) f in
+      rw (← r) (record { low = w .0; listed = w .1; found = f })
 
   flow-place : (b : List ℕ) (f : Flow) (l : Located) → flowBy f (searchOf (c .watch)) b start end ≡ Good l → Watched c l
   flow-place b OtherFlow l q = let z : _≡_ {A = ℕ} 0 1 = cc in absurd (omega arith)

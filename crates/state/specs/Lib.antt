@@ -3,6 +3,7 @@ pub mod State
 pub mod Refused
 pub mod Words
 pub mod Start
+pub mod Watching
 pub mod Lent
 pub mod Clean
 pub mod Leaves
