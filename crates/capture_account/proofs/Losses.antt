@@ -12,6 +12,7 @@ use Rattle.tlv.specs.Run.{Arrival}
 use Rattle.tlv.specs.Row.{row, packetsBy, rowPackets}
 use Rattle.reassembly.specs.declared.config.Config.{Config}
 use Rattle.reassembly.specs.Sent.{sentAfter, sent}
+use Rattle.words.specs.Config.{keptConfig}
 use Rattle.state.specs.State.{State}
 use Rattle.state.specs.Start.{startOf, freshState}
 use Rattle.frames.specs.Slot.{shortBy}
@@ -85,19 +86,19 @@ module _ (start : List ℕ) (f : Frame) (fs : List Frame) (p c : List ℕ) (size
     (n : length (f .slots) ≡ 120) (z : CanWriteFrames (f ∷ fs))
     (e : meaningOf p c (captureBytes start none (f ∷ fs)) .refusal ≡ []) where
   suffices : Suffice (configIn start) p c
-  suffices = go (shortBy (configIn start) (length p) (length c)) refl
+  suffices = go (shortBy (keptConfig (configIn start)) (length p) (length c)) refl
     where
       g : configIn (captureBytes start none (f ∷ fs)) ≡ configIn start
       g = config-same start size s none (f ∷ fs) z
 
-      none-short : shortBy (configIn start) (length p) (length c) ≡ true → (ds : List (List ℕ)) → f .slots ≡ ds → ⊥
+      none-short : shortBy (keptConfig (configIn start)) (length p) (length c) ≡ true → (ds : List (List ℕ)) → f .slots ≡ ds → ⊥
       none-short h [] q = omega (arith, n, ap length q)
       none-short h (d ∷ ds) q =
           let a = short-shows p c (captureBytes start none (f ∷ fs)) (begins-same start size s none (f ∷ fs) z) (rw g h) in
           let r = rw (g, calls-same start size s none (f ∷ fs) z, first-calls f fs d ds q) at (sym (a .refusal) ∙ e) in
           short-some (configIn start .stream) (f .block) d _ r
 
-      go : (b : Bool) → shortBy (configIn start) (length p) (length c) ≡ b → Suffice (configIn start) p c
+      go : (b : Bool) → shortBy (keptConfig (configIn start)) (length p) (length c) ≡ b → Suffice (configIn start) p c
       go true h = absurd (none-short h (f .slots) refl)
       go false h = enough (configIn start) p c h
 

@@ -10,6 +10,7 @@ use borrow.Author.Tests.{eqb-true, eqb-false, ne-eqb, ltb-false}
 use Rattle.tmcc.specs.Block.{decodeOf}
 use Rattle.reassembly.specs.declared.config.Config.{Config}
 use Rattle.wire.specs.Choice.{neither}
+use Rattle.words.specs.Config.{keptConfig}
 use Rattle.state.specs.State.{Called, State, withFrame, refused as refusedWith, accepted as acceptedAs}
 use Rattle.state.specs.Start.{freshState}
 use Rattle.frames.specs.Frame.{frameBusy, frameOf, lossOf, lostFrameOf, frame-short, frame-busy, frame-refused, frame-accepted, lost-frame-busy, lost-frame-accepted}
@@ -267,7 +268,7 @@ module _ (p c : List ℕ) where
       rw (mean-step f (session st t) p c b (ap (λ (y : Waited). y .refusals) g), g, drain-idle (session st t) p c o)
       (onward-says f (says f) st t b n h o fr (whole b) refl)
 
-pub short-shows : (p c b : List ℕ) → Begins b → shortBy (configIn b) (length p) (length c) ≡ true → NoneShown p c b
+pub short-shows : (p c b : List ℕ) → Begins b → shortBy (keptConfig (configIn b)) (length p) (length c) ≡ true → NoneShown p c b
 unfolding meaningOf commandCalls started-session freshState
 short-shows p c b s h =
     let n : length b ≡ suc (length b - 1) = omega (arith, s .has-c .long) in
@@ -282,13 +283,13 @@ short-shows p c b s h =
       frames = ap (λ (m : Meaning). m .tally .frames) e ∙ a .2;
     }
 
-pub enough : (cfg : Config) (p c : List ℕ) → shortBy cfg (length p) (length c) ≡ false → Suffice cfg p c
+pub enough : (cfg : Config) (p c : List ℕ) → shortBy (keptConfig cfg) (length p) (length c) ≡ false → Suffice cfg p c
 unfolding shortBy
 enough cfg p c h = let w = neither _ _ h in record { packet = ltb-false _ _ (w .0); collecting = ltb-false _ _ (w .1) }
 
 pub capture-short : CaptureShort
-capture-short p c b s n = go (shortBy (configIn b) (length p) (length c)) refl
+capture-short p c b s n = go (shortBy (keptConfig (configIn b)) (length p) (length c)) refl
   where
-    go : (x : Bool) → shortBy (configIn b) (length p) (length c) ≡ x → NoneShown p c b
+    go : (x : Bool) → shortBy (keptConfig (configIn b)) (length p) (length c) ≡ x → NoneShown p c b
     go true h = short-shows p c b s h
     go false h = absurd (n (enough (configIn b) p c h))

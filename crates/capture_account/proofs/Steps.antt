@@ -13,6 +13,7 @@ use Rattle.tmcc.specs.Block.{decodeOf}
 use Rattle.tlv.specs.Run.{Arrival, State as Slot-state, Stepped, lost, step, run, stateAfter}
 use Rattle.reassembly.specs.declared.config.Config.{Config}
 use Rattle.reassembly.specs.Run.{Lane}
+use Rattle.words.specs.Config.{KeptConfig, keptConfig}
 use Rattle.state.specs.State.{Called, State, Frame as ReceiverFrame, withFrame, refused as refusedWith, accepted as acceptedAs}
 use Rattle.frames.specs.Slot.{counted, wrongLength, slotRefusal, slotOf, lostSlotOf, slotTaken, lossTaken, dueLength, dueOwn, duePointers, shortBy, long-enough}
 use Rattle.frames.specs.Frame.{frameBusy, frameOf, lossOf, lostFrameOf}
@@ -137,7 +138,7 @@ module _ (cfg : Config) (m : Machine) (tl : Slot-state (ℕ × ℕ)) (f : ℕ �
   short-none : shortBy (m .state .config) (length (m .packet)) (length (m .collecting)) ≡ false
   short-none =
       let k = a .tracks in
-      rw (k .config) (long-enough cfg (length (m .packet)) (length (m .collecting)) (k .packet-long) (k .collecting-long))
+      rw (k .config) (long-enough (keptConfig cfg) (length (m .packet)) (length (m .collecting)) (k .packet-long) (k .collecting-long))
 
   slot-refusal-is : slotRefusal (m .state) (length (m .packet)) (length (m .collecting)) ≡ cond (leb 120 s) 20 0
   unfolding slotRefusal
@@ -154,7 +155,7 @@ module _ (cfg : Config) (m : Machine) (tl : Slot-state (ℕ × ℕ)) (f : ℕ �
   unfolding frameOf refusalAt
   frame-refusal b =
       rw busy-is (go (eqb (length b) 1178) (ltb s 120) (eqb r 0) refl)
-      ∙ ap (λ (x : Config). cond (eqb (length b) 1178) (cond (ltb s 120) 11 (decodeOf b (x .stream) .refusal)) 10) (a .tracks .config)
+      ∙ ap (λ (x : KeptConfig). cond (eqb (length b) 1178) (cond (ltb s 120) 11 (decodeOf b (x .stream) .refusal)) 10) (a .tracks .config)
     where
       r : ℕ
       r = decodeOf b (m .state .config .stream) .refusal
