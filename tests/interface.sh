@@ -62,21 +62,21 @@ check "the C example has under 60 lines" under_60_lines examples/capture.c
 check "the Rust example compiles" cargo build --offline --release --manifest-path bindings/rust/Cargo.toml --example capture \
     --target-dir "$made/rust"
 check "the Rust example has under 60 lines" under_60_lines bindings/rust/examples/capture.rs
-check "captures are generated" cargo run --offline --release --manifest-path tests/Cargo.toml --bin dump -- "$captures" 720
+check "captures are generated" cargo run --offline --release --manifest-path tests/Cargo.toml --bin dump -- "$captures" 780
 mv "$made/rust/release/examples/capture" "$made/capture_rust"
 for program in capture_c capture_rust; do
     check "$program prints the worked example" prints_the_example "$made/$program"
-    check "$program prints what tlv_capture prints of 720 captures" same "$made/$program" "$captures"/*
+    check "$program prints what tlv_capture prints of 780 captures" same "$made/$program" "$captures"/*
 done
 
-# The calls on guarded memory; a capture of each family, 0 to 11, is also read in valgrind.
+# The calls on guarded memory; a capture of each family, 0 to 12, is also read in valgrind.
 for program in ways misuse stack; do check "$program compiles" guarded "$program"; done
-check "next and events give the same, on guarded memory" "$made/ways" "$example" "$captures"/{0..119}
+check "next and events give the same, on guarded memory" "$made/ways" "$example" "$captures"/{0..129}
 check "wrong calls are refused and change nothing; noise as a state" "$made/misuse" "$example"
 check "the stack that the header says is enough" "$made/stack" "$example" "$captures"/*
 if command -v valgrind > "$made/log"; then
-    for number in {0..11}; do check "the C example in valgrind, capture $number" example_in_valgrind "$captures/$number"; done
-    check "next and events in valgrind" in_valgrind "$made/ways" "$example" "$captures"/{0..11}
+    for number in {0..12}; do check "the C example in valgrind, capture $number" example_in_valgrind "$captures/$number"; done
+    check "next and events in valgrind" in_valgrind "$made/ways" "$example" "$captures"/{0..12}
     check "wrong calls in valgrind" in_valgrind "$made/misuse" "$example"
 fi
 

@@ -23,7 +23,9 @@ pub const FI_LAST: u8 = 3;
 /// No place; above every place.
 const NO_PLACE: u8 = MAX_IDS as u8;
 
-/// The watched packet_ids, by place, found by a hash of one byte.
+/// The watched packet_ids, by their place in the order given, found by a hash of one byte. The answer is that
+/// of a search in the order given (`tests/watching.rs`); no list in rising order is kept here, unlike in the
+/// proved library, so that the two share no step.
 #[derive(Clone, Copy, Debug)]
 pub struct Watch {
     ids: [u16; MAX_IDS],
@@ -53,7 +55,7 @@ impl Watch {
         watch
     }
 
-    /// The id's place.
+    /// The id's place in the order given.
     #[inline(always)]
     pub fn place(&self, id: u16) -> Option<usize> {
         let mut k = usize::from(self.first[hash(id)]);

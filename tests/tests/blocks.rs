@@ -21,7 +21,7 @@ fn in_blocks(capture: &[u8], mut size: impl FnMut() -> usize) -> Vec<u8> {
 #[test]
 fn any_block_size() {
     let mut compared = 0;
-    for number in 0..120 {
+    for number in 0..130 {
         let capture = catalogue::capture(number);
         let whole = lines_of(&capture);
         let mut rng = Prng::new(number);
@@ -32,7 +32,7 @@ fn any_block_size() {
             compared += 1;
         }
     }
-    assert_eq!(compared, 600);
+    assert_eq!(compared, 650);
 }
 
 /// Gives as many bytes a call as it likes, and now and then is interrupted.
@@ -52,7 +52,7 @@ impl Read for Halting<'_> {
 
 #[test]
 fn streams_give_the_same_lines() {
-    for number in 120..240 {
+    for number in 130..260 {
         let capture = catalogue::capture(number);
         let (mut streamed, mut written) = (Vec::new(), Vec::new());
         run(Halting(&capture, Prng::new(number)), &mut streamed).expect("no other error");

@@ -1,7 +1,10 @@
 //! The catalogue reaches every note, every refusal that a capture can reach, every kind of unit, a bad first
-//! byte at every place that a header can have, and units and holes that the counter runs round in.
+//! byte at every place that a header can have, units and holes that the counter runs round in, and watch lists
+//! of every length and order beside packets that nearly fit them.
 
 mod common;
+#[path = "coverage/watching.rs"]
+mod watching;
 
 use std::collections::BTreeMap;
 
@@ -151,11 +154,9 @@ fn bad_first_bytes_at_every_place() {
 /// A good packet, and the fields that its first unit or piece starts with.
 type Good = (Packet, UnitFields);
 
-/// The good packets of each watched packet_id of a capture, in order.
-fn good_packets(capture: &[u8]) -> Vec<Vec<Good>> {
-    let (cid, n) = (be16(capture, 3), usize::from(capture[5]));
-    let ids: Vec<u16> = (0..n).map(|k| be16(capture, 6 + 2 * k)).collect();
-    let (watch, mut out) = (Watch::new(&ids), vec![Vec::new(); n]);
+/// The complete packets of a capture, in order.
+fn packets(capture: &[u8]) -> Vec<Vec<u8>> {
+    let mut out = Vec::new();
     let (mut stream, mut memory) = (Stream::default(), vec![0; PACKET_MEMORY]);
     for (data, t, last) in own_slots(capture) {
         let taken = match data {
@@ -168,15 +169,24 @@ fn good_packets(capture: &[u8]) -> Vec<Vec<Good>> {
             parts.push(at..at + packet_total(&memory, at));
             at = parts[parts.len() - 1].end;
         }
-        for part in parts.into_iter().filter(|part| !part.is_empty()) {
-            let bytes = &memory[part];
-            if let Reading::Good(packet) = read(bytes, cid, &watch) {
-                let fields = match packet.prefix {
-                    0 => UnitFields::read(packet.kind, &bytes[packet.at..]),
-                    _ => UnitFields::default(),
-                };
-                out[packet.place].push((packet, fields));
-            }
+        let parts = parts.into_iter().filter(|part| !part.is_empty());
+        out.extend(parts.map(|part| memory[part].to_vec()));
+    }
+    out
+}
+
+/// The good packets of each watched packet_id of a capture, in order.
+fn good_packets(capture: &[u8]) -> Vec<Vec<Good>> {
+    let (cid, n) = (be16(capture, 3), usize::from(capture[5]));
+    let ids: Vec<u16> = (0..n).map(|k| be16(capture, 6 + 2 * k)).collect();
+    let (watch, mut out) = (Watch::new(&ids), vec![Vec::new(); n]);
+    for bytes in packets(capture) {
+        if let Reading::Good(packet) = read(&bytes, cid, &watch) {
+            let fields = match packet.prefix {
+                0 => UnitFields::read(packet.kind, &bytes[packet.at..]),
+                _ => UnitFields::default(),
+            };
+            out[packet.place].push((packet, fields));
         }
     }
     out

@@ -7,6 +7,7 @@ use second::generate::broadcast::{undamaged, Broadcast, Losses};
 use second::generate::holes;
 use second::generate::prng::Prng;
 use second::generate::sender::Sent;
+use second::generate::watching;
 
 fn got(broadcast: &Broadcast, losses: &Losses) -> Vec<Got> {
     let sent = broadcast.surviving(losses);
@@ -124,6 +125,28 @@ fn holes_in_long_units() {
     }
     println!("{long} units of more than 256 pieces kept, {torn} removed");
     assert!(long > 100 && torn > 200 && fared.notes > 1_000);
+}
+
+/// Also for watch lists of every length and order, with many packets beside that are not watched; there are
+/// no units but those that were sent, each for its own packet_id.
+#[test]
+fn watch_lists_of_every_order() {
+    let (mut fared, mut mixed) = (Fared::default(), 0);
+    for seed in 0..300 {
+        let (broadcast, list) = watching::broadcast(seed);
+        let none = Losses::none(broadcast.frames.len());
+        assert_eq!(read(&broadcast, &none).notes, [], "seed {seed}");
+        compare(&broadcast, &none, &mut fared, seed);
+        let mut rng = Prng::new(seed ^ 0x11);
+        for round in 0..2 {
+            let losses = Losses::random(&mut rng, broadcast.frames.len());
+            compare(&broadcast, &losses, &mut fared, 2 * seed + round);
+        }
+        mixed += u64::from(!list.ids.is_sorted());
+    }
+    let Fared { removed, kept, .. } = fared;
+    println!("{removed} units removed, {kept} kept, {mixed} lists not in rising order");
+    assert!(removed > 1_000 && kept > 10_000 && mixed > 100);
 }
 
 #[test]

@@ -7,8 +7,9 @@ use super::damage;
 use super::holes;
 use super::noise;
 use super::prng::Prng;
+use super::watching;
 
-pub const FAMILIES: [&str; 12] = [
+pub const FAMILIES: [&str; 13] = [
     "undamaged",
     "slots and frames lost",
     "packets damaged",
@@ -21,6 +22,7 @@ pub const FAMILIES: [&str; 12] = [
     "boundaries of held bytes",
     "packets cut at every byte",
     "holes of 256 pieces",
+    "watch lists",
 ];
 
 pub fn family(number: u64) -> &'static str {
@@ -54,9 +56,10 @@ pub fn capture(number: u64) -> Vec<u8> {
         8 => noise::bytes(number),
         9 => boundary::held(number / FAMILIES.len() as u64).concat(),
         10 => boundary::cuts(number).capture(),
-        _ => {
+        11 => {
             let (sent, losses) = holes::broadcast(number);
             sent.commands(&losses).concat()
         }
+        _ => watching::commands(number).concat(),
     }
 }

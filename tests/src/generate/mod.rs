@@ -11,3 +11,4 @@ pub mod noise;
 pub mod packet;
 pub mod prng;
 pub mod sender;
+pub mod watching;

@@ -34,6 +34,13 @@ impl Prng {
         from[self.below(from.len())]
     }
 
+    /// Puts them in any order.
+    pub fn shuffle<T>(&mut self, items: &mut [T]) {
+        for last in (1..items.len()).rev() {
+            items.swap(last, self.below(last + 1));
+        }
+    }
+
     pub fn byte(&mut self) -> u8 {
         self.u64() as u8
     }

@@ -209,6 +209,38 @@ impl Sender {
         self.push(Item::Flow(Box::new(spec)));
     }
 
+    /// Sends a packet that nothing but its packet_id keeps from being read: whole, or a piece.
+    pub fn stranger(&mut self, packet_id: u16) {
+        let k = self.rng.below(self.sources.len());
+        let kind = self.rng.below(5) as u8;
+        let mut spec = self.spec(k, kind);
+        spec.packet_id = packet_id;
+        let indicator = self.rng.below(4) as u8;
+        spec.set_indicator(indicator);
+        spec.counter = match indicator {
+            3 => 0,
+            _ => self.rng.pick(&[0, 1, 2, 255]),
+        };
+        spec.mpu = self.sources[k].mpu;
+        spec.body = field_bytes(kind, &fields(&mut self.rng, kind));
+        let len = self.rng.below(40);
+        spec.body.extend(self.rng.bytes(len));
+        self.push(Item::Flow(Box::new(spec)));
+    }
+
+    /// Sends source `k`'s next packet: of a unit in few pieces, or a whole one.
+    pub fn speak(&mut self, k: usize) {
+        if self.sources[k].open.is_none() && self.rng.chance(2, 3) {
+            let count = self.rng.range(2, 4);
+            self.begin(k, count);
+        }
+        if self.sources[k].open.is_some() {
+            self.piece(k);
+        } else {
+            self.whole(k);
+        }
+    }
+
     /// A packet of source `k`, its psn not yet counted; payload to be filled in.
     pub fn spec(&mut self, k: usize, kind: u8) -> Spec {
         let rng = &mut self.rng;

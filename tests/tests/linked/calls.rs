@@ -220,6 +220,11 @@ fn holes_of_256_pieces() {
 }
 
 #[test]
+fn watch_lists() {
+    reaches_memories(12);
+}
+
+#[test]
 fn memories_too_short() {
     let mut compared = Compared::default();
     let mut seen = 0;
