@@ -23,20 +23,29 @@ impl List {
         let n = rng.pick(&[any, any, MAX_IDS]);
         let mut ids = rising(rng, n);
         arrange(rng, &mut ids);
+        List::of(rng, &ids)
+    }
+
+    /// These watched ids, and any behind n: some watched ones again, most of them not watched.
+    pub fn of(rng: &mut Prng, ids: &[u16]) -> Self {
         let mut list = List {
-            ids,
+            ids: ids.to_vec(),
             behind: Vec::new(),
         };
-        while n + list.behind.len() < MAX_IDS {
-            let watched = rng.pick(&list.ids);
+        while list.all().len() < MAX_IDS {
             let id = if rng.chance(1, 4) {
-                watched
+                rng.pick(ids)
             } else {
                 list.unwatched(rng)
             };
             list.behind.push(id);
         }
         list
+    }
+
+    /// All of C's ids.
+    pub fn all(&self) -> Vec<u16> {
+        [&self.ids[..], &self.behind].concat()
     }
 
     /// An id that is not watched, though it nearly is.
@@ -131,8 +140,7 @@ pub fn broadcast(seed: u64) -> (Broadcast, List) {
 pub fn commands(seed: u64) -> Commands {
     let (sent, list) = broadcast(seed);
     let mut out = with_losses(&mut Prng::new(seed ^ 0x1057), &sent);
-    let ids = list.ids.iter().chain(&list.behind);
-    for (place, id) in out[0][6..].chunks_exact_mut(2).zip(ids) {
+    for (place, id) in out[0][6..].chunks_exact_mut(2).zip(list.all()) {
         place.copy_from_slice(&id.to_be_bytes());
     }
     out

@@ -1,6 +1,8 @@
 //! Shared by the tests: reading a broadcast by the calls, and packets written out by hand.
 #![allow(dead_code)]
 
+pub mod lists;
+
 use std::ops::Range;
 
 use second::calls::{self, show, Event, Receiver};

@@ -49,7 +49,7 @@ fn frame(top: u16, last: u16) -> Vec<u8> {
 }
 
 /// The records until nothing waits.
-fn drain(pair: &mut Pair, rng: &mut Prng, records: &mut Vec<Record>) {
+pub fn drain(pair: &mut Pair, rng: &mut Prng, records: &mut Vec<Record>) {
     loop {
         let record = pair.next(rng).expect("the memories suffice");
         if record[0] == NOTHING {
@@ -84,7 +84,7 @@ fn records(packets: &[Vec<u8>]) -> Vec<Record> {
 }
 
 /// A record of these words, and 0 behind them.
-fn words(first: &[u64]) -> Record {
+pub fn words(first: &[u64]) -> Record {
     let mut record = [0; RECORD];
     record[..first.len()].copy_from_slice(first);
     record

@@ -36,6 +36,8 @@ mod shown;
 mod strays;
 #[cfg(linked)]
 mod text;
+#[cfg(linked)]
+mod watching;
 
 #[cfg(not(linked))]
 #[test]
