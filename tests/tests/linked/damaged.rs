@@ -18,7 +18,7 @@ const DAMAGED: u64 = 1_500;
 const CALLS: usize = 40;
 
 /// A word that is small, large, near a bound, or anything.
-fn word(rng: &mut Prng) -> u64 {
+pub fn word(rng: &mut Prng) -> u64 {
     let any = rng.u64();
     let bound = rng.pick(&[
         16,
@@ -64,13 +64,25 @@ fn damage(rng: &mut Prng, state: &mut [u64]) {
 
 /// What came of the calls.
 #[derive(Default, Debug)]
-struct Ended {
-    accepted: [u64; 7],
-    refused: u64,
-    records: u64,
+pub struct Ended {
+    pub accepted: [u64; 7],
+    pub refused: u64,
+    pub records: u64,
     /// Calls of events that were compared with next.
     beside_next: Stops,
 }
+
+impl Ended {
+    pub fn see(&mut self, (which, answer, _): Made) {
+        match answer {
+            0 => self.accepted[which] += 1,
+            _ => self.refused += 1,
+        }
+    }
+}
+
+/// Which call, its answer, and the records that it gave.
+pub type Made = (usize, u8, u64);
 
 /// A length of a memory: all of it, or less.
 fn length(rng: &mut Prng, len: usize) -> usize {
@@ -82,7 +94,7 @@ fn length(rng: &mut Prng, len: usize) -> usize {
 }
 
 /// What calls are given that would be good ones.
-struct Given<'a> {
+pub struct Given<'a> {
     settings: Settings,
     block: &'a [u8],
     data: Vec<&'a [u8]>,
@@ -90,7 +102,7 @@ struct Given<'a> {
 
 impl<'a> Given<'a> {
     /// Of a capture's commands from `at` on: the data that comes next, and a control block.
-    fn of(list: &[Command<'a>], at: usize, settings: Settings, block: &'a [u8]) -> Self {
+    pub fn of(list: &[Command<'a>], at: usize, settings: Settings, block: &'a [u8]) -> Self {
         let mut given = Given {
             settings,
             block,
@@ -116,13 +128,8 @@ impl<'a> Given<'a> {
     }
 }
 
-/// One call over `station`, with parts of its memories; its number, its answer, and the records it gave.
-fn call(
-    rng: &mut Prng,
-    station: &mut Station,
-    given: &Given,
-    array: &mut [u64],
-) -> (usize, u8, u64) {
+/// One call over `station`, with parts of its memories.
+fn call(rng: &mut Prng, station: &mut Station, given: &Given, array: &mut [u64]) -> Made {
     let packet = length(rng, station.packet.get().len());
     let collecting = length(rng, station.collecting.get().len());
     let packet = &mut station.packet.lend()[..packet];
@@ -166,7 +173,7 @@ fn known(which: usize, answer: u8) -> bool {
 
 /// What a call may write: the state's 751 words, and by its kind packet memory, collecting memory and the
 /// array up to the records that it gave; nothing where it is refused.
-fn is_kept(made: (usize, u8, u64), before: &Before, station: &Station, array: &Lent<u64>) {
+fn is_kept(made: Made, before: &Before, station: &Station, array: &Lent<u64>) {
     let (which, answer, records) = made;
     let (old, filling) = (&before.station, &before.array);
     assert!(known(which, answer), "call {which}: {answer}");
@@ -191,31 +198,51 @@ struct Before {
     array: Lent<u64>,
 }
 
-/// Calls in any order, some over words that are damaged again. A call on a copy does the same.
-fn calls(rng: &mut Prng, station: &mut Station, given: &Given, ended: &mut Ended) {
+/// Makes a call in an array of `room` words, and sees that it keeps to what is its own, and that a copy does the
+/// same; what was made, and the records.
+pub fn checked(
+    rng: &mut Prng,
+    station: &mut Station,
+    room: usize,
+    make: impl Fn(&mut Station, &mut [u64]) -> Made,
+) -> (Made, Vec<u64>) {
+    let before = Before {
+        station: station.clone(),
+        array: Lent::noise(rng, room),
+    };
+    let (mut array, mut other) = (before.array.clone(), before.array.clone());
+    let mut copy = station.clone();
+    let made = make(station, array.lend());
+    let again = make(&mut copy, other.lend());
+    is_kept(made, &before, station, &array);
+    let (which, _, records) = made;
+    let same = made == again && *station == copy && array == other;
+    assert!(same, "call {which} on a copy");
+    (made, array.get()[..records as usize * RECORD].to_vec())
+}
+
+/// Damage to a state's words.
+pub type Damage = fn(&mut Prng, &mut [u64]);
+
+/// Calls in any order, some over words that are damaged again.
+pub fn calls(
+    rng: &mut Prng,
+    station: &mut Station,
+    given: &Given,
+    damage: Damage,
+    ended: &mut Ended,
+) {
     for _ in 0..CALLS {
         if rng.chance(1, 16) {
             damage(rng, station.state.lend());
         }
         let room = rng.pick(&[0, RECORD - 1, RECORD, RECORD + 1, 200]);
-        let before = Before {
-            station: station.clone(),
-            array: Lent::noise(rng, room),
-        };
-        let (mut array, mut other) = (before.array.clone(), before.array.clone());
-        let (mut copy, seed) = (station.clone(), rng.u64());
-        let made = call(&mut Prng::new(seed), station, given, array.lend());
-        let again = call(&mut Prng::new(seed), &mut copy, given, other.lend());
-        is_kept(made, &before, station, &array);
-        let (which, answer, records) = made;
-        let same = made == again && *station == copy && array == other;
-        assert!(same, "call {which} on a copy");
-        match answer {
-            0 => ended.accepted[which] += 1,
-            _ => ended.refused += 1,
-        }
-        let written = &array.get()[..records as usize * RECORD];
-        ended.records += show_each(rng, station, written);
+        let seed = rng.u64();
+        let (made, records) = checked(rng, station, room, |station, array| {
+            call(&mut Prng::new(seed), station, given, array)
+        });
+        ended.see(made);
+        ended.records += show_each(rng, station, &records);
         if rng.chance(1, 4) && station.clone().next(&mut [0; RECORD]) == 0 {
             let room = rng.pick(&[1, 2, 3, 7]);
             once(station, rng, room, &mut ended.beside_next);
@@ -224,7 +251,7 @@ fn calls(rng: &mut Prng, station: &mut Station, given: &Given, ended: &mut Ended
 }
 
 /// Show of records that a damaged state gave: the part of its memory, or nothing. How many are events.
-fn show_each(rng: &mut Prng, station: &mut Station, records: &[u64]) -> u64 {
+pub fn show_each(rng: &mut Prng, station: &mut Station, records: &[u64]) -> u64 {
     let mut events = 0;
     for record in records.chunks_exact(RECORD) {
         assert!(record[0] <= 2 && record[2] <= 1, "{record:?}");
@@ -242,7 +269,7 @@ fn show_each(rng: &mut Prng, station: &mut Station, records: &[u64]) -> u64 {
 }
 
 /// A block with a TLV stream of each id below 16, all slots live and of 1,870 bytes, by turns theirs.
-fn block_of_sixteen() -> Vec<u8> {
+pub fn block_of_sixteen() -> Vec<u8> {
     let mut block = vec![0; 1_178];
     block[1..25].copy_from_slice(&[0xFF, 0, 0].repeat(8));
     block[1..3].copy_from_slice(&[0x51, 120]);
@@ -285,7 +312,7 @@ fn noise() {
             let state = &mut station.state.lend()[..STATE];
             state.iter_mut().for_each(|word| *word %= small);
         }
-        calls(&mut rng, &mut station, &given, &mut ended);
+        calls(&mut rng, &mut station, &given, damage, &mut ended);
     }
     println!("{ended:?}");
     assert!(ended.accepted.iter().all(|&count| count > 20));
@@ -310,7 +337,7 @@ fn damaged_states() {
         let given = Given::of(&reading.commands, reading.at, reading.settings, &block);
         let mut station = reading.pair.theirs;
         damage(&mut rng, station.state.lend());
-        calls(&mut rng, &mut station, &given, &mut ended);
+        calls(&mut rng, &mut station, &given, damage, &mut ended);
     }
     println!("{ended:?}");
     assert!(ended.accepted.iter().all(|&count| count > 100));

@@ -38,6 +38,8 @@ mod strays;
 mod text;
 #[cfg(linked)]
 mod watching;
+#[cfg(linked)]
+mod wild;
 
 #[cfg(not(linked))]
 #[test]
