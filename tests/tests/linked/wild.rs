@@ -54,7 +54,7 @@ fn where_the_list_stands() {
 fn damage_list(rng: &mut Prng, state: &mut [u64]) {
     let list = &mut state[LIST];
     let (one, other) = (rng.below(list.len()), rng.below(list.len()));
-    match rng.below(10) {
+    match rng.below(12) {
         0 => list.reverse(),
         1 => list.fill(list[one]),
         2 => list.fill_with(|| word(rng)),
@@ -64,11 +64,16 @@ fn damage_list(rng: &mut Prng, state: &mut [u64]) {
         6 => rng.shuffle(list),
         7 => list[one] = rng.pick(&[list[other], 0, 65_535, 65_536, u64::MAX]),
         8 => {
-            let shift = rng.pick(&[16, 32, 48]);
-            let any = rng.pick(&[3, 16, 20, 65_535]);
-            let beside = |id: &mut u64| *id = *id & 0xFFFF | (rng.below(any) as u64) << shift;
-            list.iter_mut().for_each(beside);
+            let (most, shift) = (rng.pick(&[3, 16, 20, 65_535]), rng.pick(&[16, 20, 32, 48]));
+            let above = |word: &mut u64| *word |= (rng.below(most) as u64) << shift;
+            list.iter_mut().for_each(above);
         }
+        9 => {
+            let shift = rng.pick(&[0, 4, 5, 16]);
+            let below = |word: &mut u64| *word = *word << shift ^ rng.below(16) as u64;
+            list.iter_mut().for_each(below);
+        }
+        10 => list.iter_mut().for_each(|word| *word >>= 4),
         _ => list[one] = word(rng),
     }
     if rng.chance(1, 2) {
