@@ -1,7 +1,8 @@
 //! Measures the proved decoder beside the second one and beside a plain copy: as whole processes and in
-//! memory, on three captures, as lines and call by call; what a command without data costs, and packing.
+//! memory, on four captures, as lines and call by call; what a command without data costs, and packing.
 //!
 //! `bench [FRAMES [ROUNDS [PROGRAM]]]`. PROGRAM is the capture program, else TLV_CAPTURE names it.
+//! `bench write NAME FRAMES FILE` writes one of the captures to a file.
 
 mod calls;
 mod captures;
@@ -16,6 +17,7 @@ mod table;
 
 use std::env;
 use std::error::Error;
+use std::fs;
 use std::io;
 use std::path::PathBuf;
 use std::process::ExitCode;
@@ -75,6 +77,7 @@ fn main() -> ExitCode {
             second::capture::run(io::stdin().lock(), io::stdout().lock()).map_err(Into::into)
         }
         Some(processes::COPY) => processes::copy().map_err(Into::into),
+        Some("write") => write(&words.skip(1).collect::<Vec<_>>()),
         _ => Settings::new(words).and_then(|settings| measure(&settings)),
     };
     match done {
@@ -84,6 +87,22 @@ fn main() -> ExitCode {
             ExitCode::FAILURE
         }
     }
+}
+
+/// Writes a capture to a file, and prints what it has.
+fn write(words: &[String]) -> Result<(), Box<dyn Error>> {
+    let [name, frames, file] = words else {
+        return Err("write takes NAME, FRAMES and FILE".into());
+    };
+    let Ok(frames @ 1..) = frames.parse() else {
+        return Err("FRAMES is a decimal number above 0".into());
+    };
+    let measured = captures::named(name, frames).ok_or(format!("there is no capture {name}"))?;
+    fs::write(file, &measured.capture).map_err(|error| format!("{file}: {error}"))?;
+    println!("{name}: {}", measured.what);
+    let bytes = measured.capture.len();
+    println!("    {bytes} bytes, {} packets", measured.packets);
+    Ok(())
 }
 
 /// A capture's row.
@@ -107,7 +126,7 @@ fn measure(settings: &Settings) -> Result<(), Box<dyn Error>> {
         let (processes, text) = programs.measure(capture, rounds)?;
         println!("{}: {}", measured.name, measured.what);
         let (calls, sum) = calls::measure(capture, rounds)?;
-        println!("    {}", summary(capture, &text, &sum)?);
+        println!("    {}", summary(&measured, &text, &sum)?);
         rows.push(Row {
             name: measured.name,
             bytes: capture.len(),
@@ -145,7 +164,11 @@ fn print(what: &str, rows: &[Row], times: impl Fn(&Row) -> &Times) {
 }
 
 /// What a capture comes to, from its text; it must not be refused.
-fn summary(capture: &[u8], text: &[u8], sum: &calls::Sum) -> Result<String, Box<dyn Error>> {
+fn summary(
+    measured: &captures::Measured,
+    text: &[u8],
+    sum: &calls::Sum,
+) -> Result<String, Box<dyn Error>> {
     let last = std::str::from_utf8(text)?.lines().rev().take(2);
     let last: Vec<&str> = last.collect();
     if last.iter().any(|line| line.starts_with("refused")) {
@@ -158,8 +181,9 @@ fn summary(capture: &[u8], text: &[u8], sum: &calls::Sum) -> Result<String, Box<
     if (units, notes) != (&*sum.units.to_string(), &*sum.notes.to_string()) {
         return Err("the calls give other units or notes than the lines".into());
     }
-    let (bytes, lines) = (capture.len() as f64 / 1e6, text.len() as f64 / 1e6);
+    let (bytes, packets) = (measured.capture.len() as f64 / 1e6, measured.packets);
+    let lines = text.len() as f64 / 1e6;
     Ok(format!(
-        "{bytes:.1} MB, {frames} frames, {units} units, {notes} notes, {lines:.2} MB of lines"
+        "{bytes:.1} MB, {frames} frames, {packets} packets, {units} units, {notes} notes, {lines:.2} MB of lines"
     ))
 }
