@@ -1,5 +1,5 @@
 //! The proved library beside the second decoder: each call with its answer and both memories, refused calls,
-//! copied and damaged states, many events for one call, a capture's text, the packer, the cutter.
+//! copied and damaged states, many events for one call, a capture's text, watch lists, the packer, the cutter.
 
 #[cfg(linked)]
 mod calls;
