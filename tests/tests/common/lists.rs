@@ -23,7 +23,13 @@ pub fn place(ids: &[u16], id: u16) -> Option<usize> {
 pub fn sets(n: usize) -> [Vec<u16>; 6] {
     let n = n as u16;
     let steps = |from: u16, step: u16| (0..n).map(|i| from + i * step).collect();
-    let end = |i: u16| if i % 2 == 0 { i / 2 } else { 0xFFFF - i / 2 };
+    let end = |i: u16| {
+        if i.is_multiple_of(2) {
+            i / 2
+        } else {
+            0xFFFF - i / 2
+        }
+    };
     let mut ends: Vec<u16> = (0..n).map(end).collect();
     ends.sort_unstable();
     [

@@ -93,7 +93,7 @@ fn later<'a>(number: u64, capture: &'a [u8], rng: &mut Prng) -> Option<Reading<'
     for _ in 0..rng.pick(&[1, 3, 30, 200]) {
         reading.step();
     }
-    while number % 4 > 0 && !reading.pair.owed && reading.step() {}
+    while !number.is_multiple_of(4) && !reading.pair.owed && reading.step() {}
     reading.pair.ours.as_ref()?;
     let need = 21 * reading.settings[JOINED_MAX] as usize;
     if need < 10_000 {
