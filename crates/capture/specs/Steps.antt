@@ -12,7 +12,7 @@ use Rattle.queue.specs.declared.event.Event.the-variants.{Nothing}
 use Rattle.state.specs.State.{Called}
 use Rattle.frames.specs.Slot.{shortBy}
 use Rattle.receiver.specs.Next.{NextOut, readAll, nextOf, next-short, next-reads}
-use Rattle.receiver.specs.ReadOn.{next-calm, next-config}
+use Rattle.receiver.specs.ReadOn.{next-calm}
 use Rattle.capture.specs.declared.command.Letter.{Letter}
 use Rattle.capture.specs.declared.session.Phase.the-variants.{Ended}
 use Rattle.capture.specs.Session.{Progress, Session, isReading, busy, inPhase, withState, withTally}
@@ -156,10 +156,6 @@ module _ (s : Session) (p c : List ℕ) (d : Drains s (length p) (length c)) (o 
   next-read : nextOf (s .state) p c ≡ o
   next-read =
       next-reads (s .state) p c (d .long) (and-eq-true-iff (isReading (s .phase)) (s .state .owed) .0 (d .owed) .1) ∙ sym e
-
-  -- the configuration stays
-  pub drains-config : o .0 .state .config ≡ s .state .config
-  drains-config = rw next-read at (next-config (s .state) p c)
 
   -- where nothing waits, next is owed no more
   pub drains-paid : o .0 .event ≡ Nothing → o .0 .state .owed ≡ false

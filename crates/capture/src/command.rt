@@ -3,9 +3,9 @@ ghost use mathlib.Core.Path.{_≡_};
 ghost use Prim.Native.Nat.{_≤_, _<_};
 ghost use lib.ListN.{length};
 ghost use Rattle.capture.specs.Command.{longestCommand, letterOf, slotSize, sizeOf, idsOf, configOf};
-use watch::given::Watch;
 use reassembly::config::Config;
 use reassembly::config::Rules;
+use watch::given::Watch;
 use wire::field;
 
 pub enum Letter {

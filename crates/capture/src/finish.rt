@@ -7,11 +7,11 @@ use crate::session::Phase;
 use crate::session::Session;
 use crate::session::Tally;
 use lines::line::put_end;
-use watch::given::Watch;
 use reassembly::config::Config;
 use reassembly::config::Rules;
 use state::places::STATE_WORDS;
 use state::start::put_fresh;
+use watch::given::Watch;
 
 // Nothing read. A state memory under 751 words is left as it is: then nothing will be read.
 pub fn begin(words: &mut [u64]) -> Session

@@ -157,7 +157,7 @@ joinedBy j l m u c base =
 unfoldable pub joinedOf : Channel → Located → List ℕ → List ℕ → Rules → JoinedPacket × List ℕ
 joinedOf ch l p c rules = joinedBy (stepOf ch l p rules) l (bytesAt l p) (unitIn l p) c (baseOf l (rules .limit))
 
--- the place of the packet's packet_id in the watch list; 0 where there is no packet to join
+-- the place of the packet's packet_id in the list that start was given; 0 where there is no packet to join
 abbrev pub placeOf : Arrived → ℕ
 placeOf Silent = 0
 placeOf (Noted n id) = 0

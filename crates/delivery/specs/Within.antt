@@ -70,7 +70,7 @@ pub first-inside : (m : List ℕ) (y : Payload) → Inside m (firstUnit m y)
 unfolding firstUnit
 first-inside m y = first-by m y (y .aggregated)
 
--- a packet that is read has a place in the watch list
+-- a packet that is read has a place in the list that start was given
 pub record Watched (c : KeptConfig) (l : Located) : Type 0 where
   pub low : l .packet .place < 16
   pub listed : l .packet .place < c .watch .n

@@ -60,7 +60,7 @@ fn locate(reading: Reading, start: usize, end: usize) -> Arrived
     }
 }
 
-// The TLV packet that stands from `start` to `end` in packet memory. The words of what start keeps start at `c`.
+// The TLV packet that stands from `start` to `end` in packet memory. What start keeps stands in twenty words from `c` on.
 pub fn arrive(t: &[u64], c: usize, memory: &[u8], start: usize, end: usize) -> Arrived
     requires { ⌜ c + 20 ≤ length (now t) ⌝ }
     ensures { λ r. ⌜ r ≡ arrivedAt (readConfig (now (t .entry)) c) (now (memory .entry)) start end ⌝ }

@@ -1,9 +1,8 @@
 -- An MMTP packet, read: 51, silent for an unwatched packet_id, 52, in this order.
-use Prim.Native.Nat.{ℕ, _<_}
+use Prim.Native.Nat.{ℕ}
 use mathlib.Core.List.{List}
 use mathlib.Core.Path.{_≡_, refl, sym, _∙_, ap}
 use native.Mathlib.Omega.{arith}
-use lib.ListN.{getD}
 use Rattle.mmtp.specs.declared.header.Header.{Header}
 use Rattle.mmtp.specs.declared.header.HeaderRead.{HeaderRead}
 use Rattle.mmtp.specs.declared.header.HeaderRead.the-variants.{Malformed as BadHead, Good as GoodHead}

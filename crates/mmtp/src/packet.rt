@@ -14,7 +14,7 @@ use watch::given::Found;
 
 // A packet of a watched packet_id.
 pub struct Packet {
-    // The place of its packet_id in the watch list.
+    // The place that its packet_id has in the list that start was given.
     pub place: usize,
     pub packet_id: u16,
     pub psn: Psn,

@@ -73,7 +73,7 @@ PacketWhole = (cid sn : ℕ) (p : Piece) (s : List ℕ) → length s ≤ 1400 �
 abbrev pub JoinedCut : Type 0
 JoinedCut = (bs : List (List ℕ)) → AllWhole bs → cut (joined bs) ≡ record { packets = bs; tail = []; good = true }
 
--- the packet that is meant, its packet_id at this place of the watch list
+-- the packet that is meant, its packet_id at this place of the list that start was given
 abbrev pub meant : ℕ → Piece → Packet
 meant place p =
     record {

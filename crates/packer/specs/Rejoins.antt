@@ -12,7 +12,7 @@ use Rattle.reassembly.specs.Channel.{nextPsn}
 use Rattle.reassembly.specs.Run.{Input, Lane, labelled, run, lanesAfter}
 use Rattle.packer.specs.Pieces.{pieces, withPsn, pieceAt}
 
--- what packet `i` of `n` brings to joining, its packet_id at this place of the watch list
+-- what packet `i` of `n` brings to joining, its packet_id at this place of the list that start was given
 abbrev pub inputAt : Unit → ℕ → ℕ → ℕ → List ℕ → Input
 inputAt u place n i s =
     record { place = place; piece = pieceAt u n i (length s); bytes = s; wholes = record { info = withPsn u i; bytes = s } ∷ [] }

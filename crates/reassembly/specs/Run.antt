@@ -21,7 +21,7 @@ pub record Content : Type 0 where
   pub info : UnitInfo
   pub bytes : List ℕ
 
--- a packet that was read: the place of its packet_id in the watch list; its piece with the piece's bytes; its units if it is FI 00
+-- a packet that was read: the place of its packet_id in the list that start was given; its piece with the piece's bytes; its units if it is FI 00
 pub record Input : Type 0 where
   pub place : ℕ
   pub piece : Piece

@@ -1,11 +1,13 @@
 -- Why a started receiver answers as a search in the order given.
 use mathlib.Core.Path.{_≡_, refl, sym, _∙_, ap}
-use Prim.Native.Nat.{ℕ}
+use Prim.Native.Nat.{min}
 use mathlib.Core.Bool.{Bool, true, false, cond}
+use native.Mathlib.Omega.{arith}
 use borrow.Author.Tests.{eqb-true}
 use lib.Dec.{eqb}
+use Rattle.watch.specs.Order.{rising-rises, rising-length}
 use Rattle.reassembly.specs.declared.config.Config.{Config}
-use Rattle.words.specs.Config.{KeptConfig, keptConfig}
+use Rattle.words.specs.Config.{keptConfig}
 use Rattle.delivery.specs.Packet.{arrived-same}
 use Rattle.delivery.specs.Within.{arrived-place}
 use Rattle.state.specs.State.{State, Called, accepted, refused}
@@ -24,7 +26,10 @@ no-refusal st c e = go (eqb (startRefusal c) 0) refl e
 
 kept : (c : Config) → Starts c → InOrderGiven c (keptConfig c)
 kept c s =
+    let all : min (c .watch .n) 16 ≡ c .watch .n = omega (arith, s .few) in
     record {
+      rises = rising-rises (c .watch) (s .few) (s .once);
+      count = rw all (rising-length (c .watch .ids) (c .watch .n));
       answer = watch-given c s;
       packet = λ p start end. arrived-same _ _ _ p start end (watch-given c s);
       collects = λ p start end l e.

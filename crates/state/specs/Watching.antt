@@ -2,9 +2,10 @@
 use Prim.Native.Nat.{ℕ, _*_}
 use mathlib.Core.Path.{_≡_}
 use mathlib.Core.List.{List}
+use lib.ListN.{length}
 use Rattle.watch.specs.declared.given.Found.the-variants.{At}
 use Rattle.watch.specs.Given.{lookupOf}
-use Rattle.watch.specs.Rising.{searchOf}
+use Rattle.watch.specs.Rising.{Rises, searchOf}
 use Rattle.watch.specs.Order.{rising-answers}
 use Rattle.reassembly.specs.declared.config.Config.{Config}
 use Rattle.words.specs.Config.{KeptConfig, keptConfig}
@@ -14,7 +15,12 @@ use Rattle.delivery.specs.Packet.{comesTo, arrivedAt, baseOf}
 use Rattle.state.specs.State.{State}
 use Rattle.state.specs.Start.{startFrom, Starts}
 
+-- what start keeps of `c` answers as a search through c's list in the order given. Every call keeps it as it is; a packet_id
+-- collects from `baseOf` on, which `joinedOf` cites.
 pub record InOrderGiven (c : Config) (kept : KeptConfig) : Type 0 where
+  -- "keep the ids in rising order": an entry for each of the n ids; by `answer` each has "the place each had at start"
+  pub rises : Rises 0 (kept .watch .list)
+  pub count : length (kept .watch .list) ≡ c .watch .n
   -- "the answer for each packet_id"
   pub answer : (id : ℕ) → searchOf (kept .watch) id ≡ lookupOf (c .watch) id
   -- so each TLV packet in packet memory comes to what it would by a search in the order given
@@ -28,6 +34,6 @@ pub record InOrderGiven (c : Config) (kept : KeptConfig) : Type 0 where
 abbrev pub WatchClaim : Type 0
 WatchClaim = (st : State) (c : Config) → startFrom st c .refusal ≡ 0 → InOrderGiven c (startFrom st c .state .config)
 
--- the same of what start keeps to
+-- the answer, for every configuration that meets start's conditions
 pub watch-given : (c : Config) → Starts c → (id : ℕ) → searchOf (keptConfig c .watch) id ≡ lookupOf (c .watch) id
 watch-given c s id = rising-answers (c .watch) (s .few) (s .once) id

@@ -9,7 +9,7 @@ use tmcc::layout::Layout;
 use tmcc::layout::Pointers;
 use words::cursor::flag;
 
-// What start was given.
+// What start keeps of what it was given.
 pub const CONFIG: usize = 0;
 // The next slot of the frame, counted from 0; 120 where none is due.
 pub const AT: usize = 20;

@@ -7,10 +7,10 @@ ghost use Rattle.state.specs.Start.{twice, freshState, startRefusal, sta
 use crate::places::AT;
 use crate::places::CONFIG;
 use crate::places::STATE_WORDS;
+use reassembly::config::Config;
 use watch::given::Found;
 use watch::given::Watch;
 use watch::given::lookup;
-use reassembly::config::Config;
 use words::config::store_config;
 
 // Whether an id stands twice among the first `n`, at most 16.

@@ -1,5 +1,5 @@
 -- Examples of the watch list, computed over the definitions: a list that start is given, and words that no start makes.
-use Prim.Native.Nat.{ℕ, _+_, _*_}
+use Prim.Native.Nat.{ℕ}
 use mathlib.Core.Path.{_≡_, refl}
 use mathlib.Core.List.{List, [], _∷_}
 use lib.ListN.{replicate}
@@ -39,7 +39,7 @@ unfolding inserted risingOf searched searchOf firstFrom lookupOf
 finds = (refl, refl, refl, refl, refl, refl, refl, refl, refl, refl, refl)
 
 abbrev word : ℕ → ℕ → ℕ
-word id place = id * 16 + place
+word id place = entryWord (the id place)
 
 -- words of falling ids: the search stops at the first larger one
 abbrev falling : List ℕ
@@ -58,5 +58,5 @@ Wild =
     × (searchOf (risingIn wild 0 99) 0 ≡ Nothing) × (searchOf (risingIn wild 0 0) 3 ≡ Nothing)
 
 pub wild-words : Wild
-unfolding searched searchOf entryOf entriesIn risingIn tab
+unfolding searched searchOf entryOf entryWord entriesIn risingIn tab
 wild-words = (refl, refl, refl, refl, refl, refl, refl, refl, refl, refl)

@@ -1,4 +1,4 @@
--- The lookup of a packet_id in the watch list.
+-- The watch list as start is given it, and the search in the order given.
 use Prim.Native.Nat.{ℕ, zero, suc, _+_, _-_, _<_, _≤_, min}
 use mathlib.Core.Bool.{Bool, true, false, cond}
 use mathlib.Core.List.{List}

@@ -1,4 +1,4 @@
-// The watch list: which packet_ids are watched, and the place of each.
+// The watch list as start is given it, and the search in the order given.
 ghost use mathlib.Core.Path.{_≡_};
 ghost use Prim.Native.Nat.{_<_};
 ghost use Rattle.watch.specs.Given.{lookupOf};
@@ -22,7 +22,7 @@ pub fn lookup(watch: Watch, id: u16) -> Found
     let ids = watch.ids;
     let mut place = 16;
     let mut k = 16;
-    // No early exit, whose branch is mispredicted: sixteen compares are a few vector instructions. The first match comes last.
+    // From the back, so that the first match is the one that stays.
     while k > 0 {
         k -= 1;
         if ids[k] == id {

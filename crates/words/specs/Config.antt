@@ -35,7 +35,7 @@ readConfig t i =
 unfoldable pub configWords : KeptConfig → List ℕ
 configWords c = (c .stream ∷ c .cid ∷ c .watch .n ∷ c .rules .limit ∷ []) ++ risingWords (c .watch)
 
--- what start was given was stored from i on
+-- what start keeps of `c` was stored from i on
 pub record ConfigStored (before after : List ℕ) (i : ℕ) (c : Config) : Type 0 where
   pub read : readConfig after i ≡ keptConfig c
   pub put : Put before after i 20 (configWords (keptConfig c))
@@ -73,20 +73,8 @@ config-back u i c s d r h =
 pub config-clean : (t u : List ℕ) (i : ℕ) (c : Config) → ConfigStored t u i c → Holds u i 20 (configWords (readConfig u i))
 config-clean t u i c p = rw (p .read) (p .put .holds)
 
--- single parts
+-- the watch list
 module _ (t : List ℕ) (i : ℕ) where
-  pub stream-is : readConfig t i .stream ≡ getD t i 0 % 65536
-  unfolding readConfig
-  stream-is = refl
-
-  pub cid-is : readConfig t i .cid ≡ getD t (i + 1) 0 % 65536
-  unfolding readConfig
-  cid-is = refl
-
   pub watch-is : readConfig t i .watch ≡ risingIn t (i + 4) (getD t (i + 2) 0)
   unfolding readConfig
   watch-is = refl
-
-  pub limit-is : readConfig t i .rules .limit ≡ getD t (i + 3) 0
-  unfolding readConfig
-  limit-is = refl

@@ -22,7 +22,7 @@ join-requires c κs =
       s .pre .2,
       arrived-place g (s .args .memory .now) (s .args .start) (s .args .end) _ e .low,
       rw (c .before .before .load-rules .ensures)
-      (arrived-fits g (s .args .memory .now) (s .args .start) (s .args .end) (Good _) _ e (s .pre .3)),
+          (arrived-fits g (s .args .memory .now) (s .args .start) (s .args .end) (Good _) _ e (s .pre .3)),
     )
 
 returns : tie.Need-returns
@@ -50,7 +50,7 @@ returns-3 c =
     let s = e .before .before .before .before .before in
     let a = s .args in
     receives-good (readConfig (a .t .now) (a .c)) (a .t .now) (a .i) (a .k) (a .memory .now) (a .collecting .now) (a .start) (a .end) _ _ _
-    (sym (e .arrive .ensures) ∙ d .arrived2 .given .1) 
+    (sym (e .arrive .ensures) ∙ d .arrived2 .given .1)
     (rw (c .before .before .before .before .before .before .before .load-rules .ensures) at (c .before .before .before .before .join .ensures))
 
 pub receive-spec : {M : Type 1} → statement M

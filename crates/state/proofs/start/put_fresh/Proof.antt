@@ -1,4 +1,4 @@
--- Why put_fresh meets its contract: 0 in every word, then what start was given, and no slot is due.
+-- Why put_fresh meets its contract: 0 in every word, then what start keeps, and no slot is due.
 use mathlib.Core.Path.{_∙_}
 use lib.ListN.{length-set}
 use Rattle.state.specs.Lent.{state-fresh}
