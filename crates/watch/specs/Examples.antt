@@ -20,7 +20,7 @@ given = record { ids = 9 ∷ 3 ∷ 65535 ∷ 0 ∷ 7 ∷ 5 ∷ replicate 10 0; n
 abbrev pub Keeps : Type 0
 Keeps =
     (rising given .list ≡ the 0 3 ∷ the 3 1 ∷ the 7 4 ∷ the 9 0 ∷ the 65535 2 ∷ [])
-    × (risingWords (rising given) ≡ 3 ∷ 49 ∷ 116 ∷ 144 ∷ 1048562 ∷ replicate 11 0)
+    × (risingWords (rising given) ≡ 3 ∷ 49 ∷ 116 ∷ 144 ∷ 1048562 ∷ replicate 11 1048576)
 
 pub keeps : Keeps
 unfolding inserted risingOf entryWord risingWords tab
