@@ -20,7 +20,7 @@ const JOINED_MAX: usize = 3;
 const LIST: Range<usize> = 4..20;
 
 /// Captures of watch lists that are read on, and captures of all families over which calls are made in any order.
-const READ: u64 = 800;
+const READ: u64 = 1_200;
 const CALLED: u64 = 500;
 /// Commands of a capture that are read on, and calls of next or events behind each, at most.
 const COMMANDS: usize = 30;
