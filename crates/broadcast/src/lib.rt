@@ -1,1 +1,2 @@
 // What is proved of broadcasts as a whole; no code.
+#![tactic(auto)]

@@ -6,7 +6,7 @@ use reassembly::config::{Config, Rules};
 use watch::given::Watch;
 use wire::field;
 
-#[derive(Drop)]
+#[derive(Clone, Copy)]
 pub enum Letter {
     Start,
     Frame,

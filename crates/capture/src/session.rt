@@ -2,7 +2,7 @@
 ghost use Rattle.std.specs.Prelude.{◌≡◌};
 ghost use Rattle.capture.specs.Session.{ended};
 
-#[derive(Drop)]
+#[derive(Clone, Copy)]
 pub enum Phase {
     // C has not come.
     Before,
@@ -11,7 +11,7 @@ pub enum Phase {
     Ended,
 }
 
-#[derive(Drop)]
+#[derive(Clone, Copy)]
 pub struct Tally {
     // Frames so far, lost ones too.
     pub frames: u64,
@@ -22,14 +22,14 @@ pub struct Tally {
 }
 
 // What is kept beside the state memory, which has the receiver's state.
-#[derive(Drop)]
+#[derive(Clone, Copy)]
 pub struct Session {
     pub phase: Phase,
     pub tally: Tally,
 }
 
 // The session, and the place behind what was written.
-#[derive(Drop)]
+#[derive(Clone, Copy)]
 pub struct Progress {
     pub session: Session,
     pub at: usize,

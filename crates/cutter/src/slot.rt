@@ -5,7 +5,7 @@ ghost use Rattle.cutter.specs.Slot.{whole, unlisted, cut_refusal, slot_cut};
 use tlv::packet::Walked;
 use tmcc::layout::Pointers;
 
-#[derive(Drop)]
+#[derive(Clone, Copy)]
 pub enum CutSlot {
     // The output is the slot's bytes; its top and last pointer.
     Cut(Pointers),

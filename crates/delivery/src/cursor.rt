@@ -9,7 +9,7 @@ use tlv::note::{SlotNote, number};
 use tlv::packet::Next;
 
 // What next comes to.
-#[derive(Drop)]
+#[derive(Clone, Copy)]
 pub enum Found {
     // A note of the slot.
     Event(Event),
@@ -21,7 +21,7 @@ pub enum Found {
 }
 
 // What the cursor comes to, and the cursor past it.
-#[derive(Drop)]
+#[derive(Clone, Copy)]
 pub struct Advanced {
     pub found: Found,
     pub cursor: Cursor,

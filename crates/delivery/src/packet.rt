@@ -22,7 +22,7 @@ use words::channel::{CHANNEL_WORDS, load_channel, store_channel, store_heard};
 use words::config::{LIST, load_cid, load_count, load_rules};
 
 // What a TLV packet comes to.
-#[derive(Drop)]
+#[derive(Clone, Copy)]
 pub enum Arrived {
     Silent,
     // A note and its packet_id; 0 where it has none.

@@ -17,7 +17,7 @@ use state::places::STATE_WORDS;
 const LONGEST_COMMAND: usize = 65538;
 
 // What a block leaves.
-#[derive(Drop)]
+#[derive(Clone, Copy)]
 pub struct Fed {
     pub session: Session,
     // How many bytes of a command that is not whole yet stand in the command memory.
@@ -83,7 +83,7 @@ fn whole_size(b: &[u8]) -> usize
 }
 
 // The bytes of the block that a turn takes, and where its command stands.
-#[derive(Drop)]
+#[derive(Clone, Copy)]
 struct Turn {
     // How many bytes of the block.
     took: usize,

@@ -1,7 +1,7 @@
 // What a slot leaves: the bytes that are held, and what next has yet to read.
 
 // Held bytes of a TLV packet, perhaps none, and where they stand in packet memory; searching where not `on`.
-#[derive(Drop)]
+#[derive(Clone, Copy)]
 pub struct Held {
     pub on: bool,
     pub start: usize,
@@ -9,7 +9,7 @@ pub struct Held {
 }
 
 // What next has yet to read of the slot.
-#[derive(Drop)]
+#[derive(Clone, Copy)]
 pub struct Cursor {
     // The slot's own note, 40 to 43; 0 for none.
     pub note: u8,
@@ -21,7 +21,7 @@ pub struct Cursor {
     pub end: usize,
 }
 
-#[derive(Drop)]
+#[derive(Clone, Copy)]
 pub struct Intake {
     pub held: Held,
     pub cursor: Cursor,

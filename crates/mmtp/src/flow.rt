@@ -6,7 +6,7 @@ use crate::note::PacketNote;
 use wire::field;
 
 // What a TLV packet holds.
-#[derive(Drop)]
+#[derive(Clone, Copy)]
 pub enum Flow {
     // Another packet type or another flow.
     Silent,
@@ -16,7 +16,7 @@ pub enum Flow {
 }
 
 // Where the payload starts behind a compressed header, counted from the context id.
-#[derive(Drop)]
+#[derive(Clone, Copy)]
 pub enum Compressed {
     Start(usize),
     Reserved,

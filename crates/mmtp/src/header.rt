@@ -5,10 +5,10 @@ ghost use Rattle.mmtp.specs.Header.{fixed_bytes, start_of, header_of};
 use wire::field;
 
 // A packet sequence number, counted per packet_id; the MPU sequence number beside it is a plain number.
-#[derive(Drop)]
+#[derive(Clone, Copy)]
 pub struct Psn(pub u32);
 
-#[derive(Drop)]
+#[derive(Clone, Copy)]
 pub struct Header {
     pub payload_type: u8,
     pub packet_id: u16,
@@ -17,14 +17,14 @@ pub struct Header {
     pub start: usize,
 }
 
-#[derive(Drop)]
+#[derive(Clone, Copy)]
 pub enum HeaderRead {
     Malformed,
     Good(Header),
 }
 
 // Where the payload starts.
-#[derive(Drop)]
+#[derive(Clone, Copy)]
 pub enum Start {
     At(usize),
     // The header is cut short.

@@ -2,7 +2,7 @@
 ghost use Rattle.std.specs.Prelude.{◌≡◌};
 ghost use Rattle.mmtp.specs.Notes.{number_of};
 
-#[derive(Drop)]
+#[derive(Clone, Copy)]
 pub enum PacketNote {
     // No MMTP packet can be found behind the compressed header.
     BadFlow,

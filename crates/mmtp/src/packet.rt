@@ -10,7 +10,7 @@ use crate::payload::{Payload, PayloadRead};
 use watch::given::Found;
 
 // A packet of a watched packet_id.
-#[derive(Drop)]
+#[derive(Clone, Copy)]
 pub struct Packet {
     // The place that its packet_id has in the list that start was given.
     pub place: usize,
@@ -19,7 +19,7 @@ pub struct Packet {
     pub payload: Payload,
 }
 
-#[derive(Drop)]
+#[derive(Clone, Copy)]
 pub enum Reading {
     // Not watched.
     Silent,

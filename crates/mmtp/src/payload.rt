@@ -6,7 +6,7 @@ ghost use Rattle.mmtp.specs.Payload.{counter_fits, aggregation_fits, units_fit, 
 use wire::field;
 
 // The fragmentation indicator, FI: 00, 01, 10, 11.
-#[derive(Drop)]
+#[derive(Clone, Copy)]
 pub enum Indicator {
     Whole,
     First,
@@ -15,13 +15,13 @@ pub enum Indicator {
 }
 
 // A fragment type of an MPU payload: the kind of its data units.
-#[derive(Drop)]
+#[derive(Clone, Copy)]
 pub enum FragmentType {
     Kind(u8),
     Reserved,
 }
 
-#[derive(Drop)]
+#[derive(Clone, Copy)]
 pub struct Payload {
     // 0 MPU metadata, 1 movie fragment metadata, 2 timed MFU, 3 non-timed MFU, 4 signalling.
     pub kind: u8,
@@ -36,7 +36,7 @@ pub struct Payload {
     pub start: usize,
 }
 
-#[derive(Drop)]
+#[derive(Clone, Copy)]
 pub enum PayloadRead {
     Malformed,
     Good(Payload),

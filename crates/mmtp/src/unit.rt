@@ -7,7 +7,7 @@ use crate::reader;
 use wire::field;
 
 // The fields of a data unit; 0 where its kind has none.
-#[derive(Drop)]
+#[derive(Clone, Copy)]
 pub struct Fields {
     // Kind 2: the movie fragment, and the sample with the place of the data unit in it.
     pub movie_fragment: u32,
@@ -20,7 +20,7 @@ pub struct Fields {
 }
 
 // A data unit in an MMTP packet: its fields, and the place of its bytes behind them.
-#[derive(Drop)]
+#[derive(Clone, Copy)]
 pub struct DataUnit {
     pub fields: Fields,
     pub start: usize,
@@ -28,7 +28,7 @@ pub struct DataUnit {
 }
 
 // What stands at a place of an aggregate.
-#[derive(Drop)]
+#[derive(Clone, Copy)]
 pub enum Step {
     Unit(DataUnit),
     Malformed,

@@ -7,7 +7,7 @@ ghost use Rattle.packer.specs.Writing.{Planned, planned, planned_run, Writes};
 use crate::{packet, piece};
 use reassembly::unit::Unit;
 
-#[derive(Drop)]
+#[derive(Clone, Copy)]
 pub enum Packed {
     // How many bytes.
     Written(usize),
@@ -16,7 +16,7 @@ pub enum Packed {
 }
 
 // What the packets of a unit have in common: the unit, CID, the first SN, and `n` pieces of at most `m` bytes.
-#[derive(Drop)]
+#[derive(Clone, Copy)]
 struct Plan {
     unit: Unit,
     cid: u16,

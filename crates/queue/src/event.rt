@@ -2,14 +2,14 @@
 use reassembly::unit::Unit;
 
 // A memory that the caller lends.
-#[derive(Drop)]
+#[derive(Clone, Copy)]
 pub enum Memory {
     Packet,
     Collecting,
 }
 
 // Where a unit's bytes stand.
-#[derive(Drop)]
+#[derive(Clone, Copy)]
 pub struct Place {
     pub memory: Memory,
     pub start: usize,
@@ -17,14 +17,14 @@ pub struct Place {
 }
 
 // A unit that next gives.
-#[derive(Drop)]
+#[derive(Clone, Copy)]
 pub struct Given {
     pub unit: Unit,
     pub place: Place,
 }
 
 // What next answers.
-#[derive(Drop)]
+#[derive(Clone, Copy)]
 pub enum Event {
     // Nothing waits.
     Nothing,

@@ -7,7 +7,7 @@ use mmtp::packet::Packet;
 use mmtp::unit::DataUnit;
 
 // An MMTP packet of a watched packet_id, and where it stands in packet memory.
-#[derive(Drop)]
+#[derive(Clone, Copy)]
 pub struct Located {
     pub packet: Packet,
     pub start: usize,

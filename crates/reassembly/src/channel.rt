@@ -6,7 +6,7 @@ use crate::unit::Unit;
 use mmtp::header::Psn;
 use mmtp::unit::Fields;
 
-#[derive(Drop)]
+#[derive(Clone, Copy)]
 pub enum Phase {
     Unheard,
     Waiting,
@@ -15,7 +15,7 @@ pub enum Phase {
 }
 
 // An open unit: what it carries, its last piece's counter, and how many bytes it has.
-#[derive(Drop)]
+#[derive(Clone, Copy)]
 pub struct OpenUnit {
     pub unit: Unit,
     pub counter: u8,
@@ -23,7 +23,7 @@ pub struct OpenUnit {
 }
 
 // `last` counts where the packet_id was heard, `current` where the phase is Open.
-#[derive(Drop)]
+#[derive(Clone, Copy)]
 pub struct Channel {
     pub phase: Phase,
     pub last: Psn,

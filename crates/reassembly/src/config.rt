@@ -1,7 +1,7 @@
 // What a receiver is started with.
 use watch::given::Watch;
 
-#[derive(Drop)]
+#[derive(Clone, Copy)]
 pub struct Config {
     // The stream id of the TLV stream.
     pub stream: u16,
@@ -12,7 +12,7 @@ pub struct Config {
 }
 
 // What joining goes by, beside the packet.
-#[derive(Drop)]
+#[derive(Clone, Copy)]
 pub struct Rules {
     // R: the most bytes of a joined unit.
     pub limit: usize,

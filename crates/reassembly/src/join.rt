@@ -11,7 +11,7 @@ use mmtp::header::Psn;
 use mmtp::payload::Indicator;
 
 // The first piece of a packet: what a unit that it begins carries, how it stands in its unit, and its length.
-#[derive(Drop)]
+#[derive(Clone, Copy)]
 pub struct Piece {
     pub unit: Unit,
     pub indicator: Indicator,
@@ -20,7 +20,7 @@ pub struct Piece {
 }
 
 // What is to be done with a packet's bytes.
-#[derive(Drop)]
+#[derive(Clone, Copy)]
 pub enum Action {
     Nothing,
     // Its data units are units.
@@ -31,7 +31,7 @@ pub enum Action {
     Complete(usize),
 }
 
-#[derive(Drop)]
+#[derive(Clone, Copy)]
 pub struct Joined {
     pub channel: Channel,
     // The number of a note but the last; 0 for none.

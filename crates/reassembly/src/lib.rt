@@ -1,4 +1,5 @@
 // Reassembly: units joined from the pieces of one packet_id.
+#![tactic(auto)]
 pub mod channel;
 pub mod config;
 pub mod join;

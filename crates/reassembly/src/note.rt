@@ -2,7 +2,7 @@
 ghost use Rattle.std.specs.Prelude.{◌≡◌};
 ghost use Rattle.reassembly.specs.Notes.{number_of};
 
-#[derive(Drop)]
+#[derive(Clone, Copy)]
 pub enum JoinNote {
     // A packet of the packet_id is missing: the psn is not the last one heard plus one.
     Gap,

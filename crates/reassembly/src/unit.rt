@@ -6,7 +6,7 @@ use mmtp::header::Psn;
 use mmtp::packet::Packet;
 use mmtp::unit::Fields;
 
-#[derive(Drop)]
+#[derive(Clone, Copy)]
 pub struct Unit {
     pub packet_id: u16,
     pub kind: u8,

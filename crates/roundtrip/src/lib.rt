@@ -1,1 +1,2 @@
 // The round trip: no code, the theorem alone.
+#![tactic(auto)]

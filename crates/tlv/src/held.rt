@@ -5,7 +5,7 @@ ghost use Rattle.tlv.specs.Held.{held_total, continuation_of, end_within, end_be
 use crate::note::SlotNote;
 
 // What becomes of the packet whose bytes are held.
-#[derive(Drop)]
+#[derive(Clone, Copy)]
 pub enum Continuation {
     // It is dropped, with this note.
     Dropped(SlotNote),

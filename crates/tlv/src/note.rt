@@ -2,7 +2,7 @@
 ghost use Rattle.std.specs.Prelude.{◌≡◌};
 ghost use Rattle.tlv.specs.Notes.{number_of};
 
-#[derive(Drop)]
+#[derive(Clone, Copy)]
 pub enum SlotNote {
     // A slot was lost while bytes of a packet, perhaps none, were held.
     Lost,

@@ -29,7 +29,7 @@ pub fn total_at(s: &[u8], at: usize) -> usize
 }
 
 // What stands at a place of a slot.
-#[derive(Drop)]
+#[derive(Clone, Copy)]
 pub enum Next {
     // A complete packet, up to this place.
     Packet(usize),
@@ -65,7 +65,7 @@ pub fn too_long(s: &[u8], at: usize) -> bool
 }
 
 // Where a walk over packets comes to.
-#[derive(Drop)]
+#[derive(Clone, Copy)]
 pub enum Walked {
     // A packet whose first byte is not good.
     Unmarked,

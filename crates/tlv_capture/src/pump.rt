@@ -9,7 +9,7 @@ use libc::STDIN_FILENO;
 use wire::memory::{distance, part};
 
 // How far the capture has come.
-#[derive(Drop)]
+#[derive(Clone, Copy)]
 pub struct Pumped {
     pub session: Session,
     // Bytes of a command that is not whole yet.

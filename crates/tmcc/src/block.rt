@@ -8,7 +8,7 @@ use crate::layout::Layout;
 pub const BLOCK_BYTES: usize = 1178;
 
 // `refusal` is 0 for an accepted block, and else 10, 12, 13 or 14 with a blank layout.
-#[derive(Drop)]
+#[derive(Clone, Copy)]
 pub struct Decoded {
     pub refusal: u8,
     pub layout: Layout,

@@ -5,10 +5,10 @@ ghost use Rattle.tmcc.specs.Layout.{pointers_at, layout_of, blank_layout};
 use wire::field;
 
 // Top pointer and last pointer.
-#[derive(Drop)]
+#[derive(Clone, Copy)]
 pub struct Pointers(pub u16, pub u16);
 
-#[derive(Drop)]
+#[derive(Clone, Copy)]
 pub struct Layout {
     pub pointers: [Pointers; 120],
     // Data bytes; 0 for a dummy.

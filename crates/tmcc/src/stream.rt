@@ -7,7 +7,7 @@ ghost use Rattle.tmcc.specs.Stream.{chosen, streams_of, relative_stream, own_slo
 use wire::field;
 
 // How many relative streams are chosen, and the last of them.
-#[derive(Drop)]
+#[derive(Clone, Copy)]
 pub struct Streams {
     pub count: usize,
     pub last: u8,

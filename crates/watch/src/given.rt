@@ -3,13 +3,13 @@ ghost use Rattle.std.specs.Prelude.{◌≡◌, ◌<◌};
 ghost use Rattle.watch.specs.Given.{lookup_of};
 
 // The first `n` of `ids`, at most 16, are watched.
-#[derive(Drop)]
+#[derive(Clone, Copy)]
 pub struct Watch {
     pub ids: [u16; 16],
     pub n: usize,
 }
 
-#[derive(Drop)]
+#[derive(Clone, Copy)]
 pub enum Found {
     At(usize),
     Nothing,

@@ -1,0 +1,47 @@
+use Prim.Native.Nat.{◌-◌}
+use mathlib.Core.Path.{refl, sym, ◌∙◌}
+use native.Mathlib.Omega.{arith}
+use Rattle.calls.specs.Bounds.{within-few, within-above, within_on, within_end}
+use Rattle.calls.proofs.bounds.are_within.Goals as goal
+
+pub returns-then-t-most : goal.returns-then-t-most
+returns-then-t-most c = sym (within-few _ _ c.if-t-most.true)
+
+pub loop-k-init : goal.loop-k-init
+loop-k-init c = (omega arith, c.if-t-most.false, refl)
+
+pub returns-then-most-k : goal.returns-then-most-k
+returns-then-most-k c =
+    let l = c.loop-k in
+    sym (within-above _ _ l.k (omega (arith, l.invariant)) (omega (arith, l.invariant)) c.if-most-k.true) ∙ l.invariant.2
+
+pub loop-k-preserved : goal.loop-k-preserved
+loop-k-preserved c =
+    let l = c.loop-k in (
+      omega arith,
+      l.invariant.1,
+      sym (within_on _ _ l.k (omega (arith, l.invariant)) (omega (arith, l.invariant)) c.if-most-k.false) ∙ l.invariant.2,
+    )
+
+pub returns : goal.returns
+returns c =
+    let l = c.loop-k in
+    sym (within_end _ _ l.k (omega (arith, l.invariant))) ∙ l.invariant.2
+
+pub offset_bounds-most-k : goal.offset_bounds-most-k
+offset_bounds-most-k c = omega arith
+
+pub bounds-most-k : goal.bounds-most-k
+bounds-most-k c = omega arith
+
+pub offset_bounds-t-k : goal.offset_bounds-t-k
+offset_bounds-t-k c = omega arith
+
+pub bounds-t-k : goal.bounds-t-k
+bounds-t-k c = omega arith
+
+pub overflow_add-k : goal.overflow_add-k
+overflow_add-k c = omega arith
+
+pub loop-k-smaller : goal.loop-k-smaller
+loop-k-smaller c = omega arith

@@ -1,0 +1,31 @@
+-- Why start_by meets its contract: too few words, settings that cannot be, or start.
+use mathlib.Core.Path.{sym, ◌∙◌, ap}
+use native.Mathlib.Omega.{arith}
+use borrow.Author.Tests.{not-true, not-false}
+use Rattle.state.specs.Leaves.{leaves-short, leaves-refused}
+use Rattle.state.specs.State.{Called}
+use Rattle.calls.specs.Settings.{start-by, start-not, settings-length}
+use Rattle.calls.proofs.settings.start_by.Goals as goal
+
+pub returns-then-words-lt-STATE_WORDS : goal.returns-then-words-lt-STATE_WORDS
+returns-then-words-lt-STATE_WORDS c = record { leaves = leaves-short _ _ _ c.if-words-lt-STATE_WORDS.true; clean = λ z. absurd (omega arith) }
+
+pub returns-then-not-are_settings : goal.returns-then-not-are_settings
+returns-then-not-are_settings c =
+    let f = sym c.are_settings.ensures ∙ not-true _ c.if-not-are_settings.true in
+    record {
+      leaves = leaves-refused _ _ _ _ c.if-words-lt-STATE_WORDS.false (ap (λ (x : Called). (x, [])) (start-not _ _ f));
+      clean = λ z. absurd (omega arith);
+    }
+
+pub config_of-requires : goal.config_of-requires
+config_of-requires c =
+    let l = settings-length _ (sym c.are_settings.ensures ∙ not-false _ c.if-not-are_settings.false) in
+    omega arith
+
+pub returns : goal.returns
+returns c =
+    let s = c in
+    let e = s in
+    let f = sym e.are_settings.ensures ∙ not-false _ e.if-not-are_settings.false in
+    rw (start-by _ _ f, ← s.config_of.ensures) s.start.ensures

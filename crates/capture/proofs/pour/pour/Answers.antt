@@ -1,0 +1,71 @@
+-- Why `pour` meets its contract: the words are too few, nothing is owed, there is no room, next is refused, or it is called.
+use Rattle.std.proofs.Common.{◌≡◌, ℕ, ◌+◌, ◌≤◌, List, length, sym, refl, ◌∙◌, arith, leb-true}
+use borrow.Author.Tests.{not-true, not-false}
+use Rattle.lines.specs.Line.{longest_line}
+use Rattle.state.specs.Words.{state_words, Exact}
+use Rattle.capture.specs.declared.session.Session.{Session}
+use Rattle.capture.specs.declared.session.Progress.{Progress}
+use Rattle.capture.specs.Session.{progress_in}
+use Rattle.capture.specs.Words.{PoursOr}
+use Rattle.capture.specs.Steps.{Poured, pour_idle, pour_full, pour_short}
+use Rattle.state.specs.Clean.{exact_none}
+use Rattle.capture.proofs.pour.pour.Goals as goal
+
+-- the words suffice
+long : {s : Session} {at : ℕ} {before c out : List ℕ} {r : Progress} {after d o : List ℕ} {x : Poured} → state_words ≤ length before
+    → (progress_in r after, d, o) ≡ x → Exact before after → PoursOr s at before c out r after d o x
+long h e z = record { short = λ k. absurd (omega arith); long = λ k. e; exact = z }
+
+pub returns-then-words-lt-STATE_WORDS : goal.returns-then-words-lt-STATE_WORDS
+returns-then-words-lt-STATE_WORDS c =
+    let l = c.if-words-lt-STATE_WORDS.true in
+    record { short = λ h. (refl, refl, refl, refl); long = λ h. absurd (omega arith); exact = exact_none _ }
+
+pub returns-then-not-is_busy : goal.returns-then-not-is_busy
+returns-then-not-is_busy c =
+    long c.if-words-lt-STATE_WORDS.false
+    (sym (pour_idle _ _ _ _ _ (sym c.is_busy.ensures ∙ not-true _ c.if-not-is_busy.true))) (exact_none _)
+
+pub returns-then-not-has_room : goal.returns-then-not-has_room
+returns-then-not-has_room c =
+    let b = c in
+    long b.if-words-lt-STATE_WORDS.false
+    (sym (pour_full _ _ _ _ _ (sym b.is_busy.ensures ∙ not-false _ b.if-not-is_busy.false)
+    (sym c.has_room.ensures ∙ not-true _ c.if-not-has_room.true))) (exact_none _)
+
+pub put_refused-at-requires : goal.put_refused-at-requires
+put_refused-at-requires c =
+    let r = c in
+    let s = r in
+    let l = leb-true (s.args.at + longest_line) (length s.args.out.now)
+    (sym r.has_room.ensures ∙ not-false _ r.if-not-has_room.false) in
+    omega arith
+
+pub returns-then-is_short : goal.returns-then-is_short
+returns-then-is_short c =
+    let w = c in
+    let f = w in
+    let r = f in
+    let b = r in
+    long b.if-words-lt-STATE_WORDS.false
+    (rw c.end-session.ensures
+    (sym (pour_short _ _ _ _ _ (sym b.is_busy.ensures ∙ not-false _ b.if-not-is_busy.false)
+    (sym r.has_room.ensures ∙ not-false _ r.if-not-has_room.false) (sym f.is_short.ensures ∙ f.if-is_short.true) _ _
+    w.Put-refused.ensures.written))) (exact_none _)
+
+pub drain-requires : goal.drain-requires
+drain-requires c =
+    let f = c in
+    let b = f in (
+      b.if-words-lt-STATE_WORDS.false,
+      record {
+        owed = sym b.is_busy.ensures ∙ not-false _ b.if-not-is_busy.false;
+        long = sym f.is_short.ensures ∙ f.if-is_short.false;
+      },
+    )
+
+pub returns : goal.returns
+returns c =
+    let d = c in
+    let b = d in
+    long b.if-words-lt-STATE_WORDS.false d.drain.ensures.answer d.drain.ensures.exact

@@ -1,0 +1,87 @@
+-- Why cut_slot meets its contract: a refused call leaves the output; else the slot lies in the run and fills the output.
+use Prim.Native.Nat.{ℕ, ◌+◌, ◌-◌, ◌*◌, ◌≤◌}
+use mathlib.Core.Path.{◌≡◌, sym, ◌∙◌}
+use mathlib.Core.List.{List, append-nil}
+use native.Mathlib.Nat.{zero-add}
+use native.Mathlib.Omega.{arith}
+use lib.ListN.{length, take, drop, length-drop, drop_of_length-le}
+use lib.Seq.{take-length, length-take-le}
+use Rattle.wire.specs.Memory.{pasted}
+use borrow.Author.Rules.{rules}
+use Rattle.cutter.specs.Pointers.{pointers_of}
+use Rattle.cutter.specs.Slot.{slot_at, Accepted, accepted, slot-within, slot-refused, slot-cut}
+use Rattle.cutter.proofs.Packets.{whole-good}
+use Rattle.cutter.proofs.Table.{listed_bounds}
+use Rattle.cutter.proofs.slot.cut_slot.Goals as goal
+
+-- the part of the run that is copied, and the output that it fills
+module _ (run : List ℕ) (from l : ℕ) (h : from + l ≤ length run) where
+  same : from + l - from ≡ l
+  same = omega arith
+  part_length : length (take (from + l - from) (drop from run)) ≡ l
+  part_length = rw (same, length-take-le l (drop from run) (rw length-drop (omega arith)))
+
+filled : (d s : List ℕ) → length d ≡ length s → pasted d 0 s (length s) ≡ s
+unfolding pasted
+filled d s e = rw (zero-add, take-length s, drop_of_length-le d {i = length s} (omega arith), append-nil)
+
+copied : (run output : List ℕ) (from l : ℕ) → from + l ≤ length run → length output ≡ l
+    → pasted output 0 (take (from + l - from) (drop from run)) (length (take (from + l - from) (drop from run)))
+    ≡ take l (drop from run)
+copied run output from l h e =
+    filled output (take (from + l - from) (drop from run)) (e ∙ sym (part_length run from l h)) ∙ rw (same run from l h)
+
+pub returns-then-refusal-ne0 : goal.returns-then-refusal-ne0
+returns-then-refusal-ne0 c = rw c.refusal-refusal.ensures (sym (slot-refused _ _ _ _ (rw c.refusal-refusal.ensures at c.if-refusal-ne0.true)))
+
+-- an accepted call: what it keeps to, and the room that the slot has
+accept : (d : goal.Else-refusal-ne0)
+    → Accepted d.args.run.now
+    d.args.l
+    d.args.s
+    (length d.args.output.now)
+accept d = accepted _ _ _ _ (sym d.refusal-refusal.ensures ∙ d.if-refusal-ne0.false)
+
+record Room (n l s m : ℕ) : Type 0 where
+  pub inside : s * l + l ≤ n
+  pub most : l ≤ 5049
+  pub fills : m ≡ l
+
+room : (d : goal.Else-refusal-ne0)
+    → Room (length d.args.run.now)
+    d.args.l
+    d.args.s
+    (length d.args.output.now)
+room d =
+    record {
+      inside = slot-within _ _ _ _ (accept d);
+      most = (listed_bounds _ (accept d).listed).1;
+      fills = (accept d).ranges;
+    }
+
+pub overflow_mul-from : goal.overflow_mul-from
+overflow_mul-from c = omega (arith, room c)
+
+pub find-p-requires : goal.find-p-requires
+find-p-requires c = ((whole-good _ (accept c).packets).1, omega (arith, room c), omega (arith, room c))
+
+pub overflow_add-from : goal.overflow_add-from
+overflow_add-from c = omega (arith, room c)
+
+pub slice_bounds-copy_at-end : goal.slice_bounds-copy_at-end
+slice_bounds-copy_at-end c = let r = room c in search rules
+
+pub copy_at-requires : goal.copy_at-requires
+copy_at-requires c =
+    let d = c in
+    let a = d.args in
+    omega (arith, room d, part_length a.run.now (a.s * a.l) a.l (room d).inside)
+
+pub returns : goal.returns
+unfolding slot_at pointers_of
+returns c =
+    let d = c in
+    let r = room d in
+    let b = c.copy_at.ensures ∙ copied _ _ _ _ r.inside r.fills in
+    rw (b, d.find-p.ensures)
+    (sym (slot-cut _ _ _ _ (sym d.refusal-refusal.ensures ∙ d.if-refusal-ne0.false)))

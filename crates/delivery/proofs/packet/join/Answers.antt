@@ -1,0 +1,113 @@
+-- Why join meets its contract: the packet's bytes, its piece and the step are those of the definition, the piece fits, and the
+-- state, the notes and the units are stored one after the other.
+use Prim.Native.Nat.{◌+◌, ◌*◌, ◌<◌, ◌≤◌}
+use mathlib.Core.Path.{◌≡◌}
+use native.Mathlib.Omega.{arith}
+use lib.ListN.{length}
+use Rattle.words.specs.Channel.{read_channel}
+use Rattle.wire.specs.Memory.{part-reach}
+use Rattle.delivery.specs.Within.{joined-reach, first-inside, joined-room}
+use Rattle.delivery.specs.Packet.{bytes_at, unit_in, step_of}
+use Rattle.delivery.specs.Words.{channel_place}
+use Rattle.delivery.specs.Joining.{joins-by}
+use borrow.Author.Rules.{rules}
+use Rattle.delivery.proofs.packet.join.Goals as goal
+
+-- the packet's bytes, its data unit, the state and the step are those of the definition
+bytes : (d : goal.After-part-m) → let a = d.args in
+    d.part-m.result.now ≡ bytes_at a.l a.memory.now
+bytes d = rw (d.part-m.ensures, d.distance-len.ensures)
+
+unit : (d : goal.After-first_unit-u) → let a = d.args in
+    d.first_unit-u.result ≡ unit_in a.l a.memory.now
+unit d = rw (d.first_unit-u.ensures, bytes d)
+
+step : (d : goal.After-join-j)
+    → let a = d.args in
+    d.join-j.result ≡ step_of (read_channel a.t.now (channel_place a.k a.l.packet.place)) a.l a.memory.now a.rules
+step d =
+    rw (
+      d.join-j.ensures,
+      d.load_channel-ch.ensures,
+      d.piece-p.ensures,
+      unit d,
+    )
+
+pub piece-p-requires : goal.piece-p-requires
+piece-p-requires c = rw c.first_unit-u.ensures (first-inside _ _).ordered
+
+pub overflow_add-at : goal.overflow_add-at
+overflow_add-at c =
+    let s = c in
+    let h : s.args.k + 14 * s.args.l.packet.place < 18446744073709551616 = omega (arith, s.requires, s.well_formed) in
+    record { fits = h }
+
+pub overflow_mul-base : goal.overflow_mul-base
+overflow_mul-base c =
+    let s = c in
+    let a = s.args in
+    let h : a.l.packet.place * a.rules.limit < 18446744073709551616 = omega (arith, s.requires.3) in
+    record { fits = h }
+
+pub collect-requires : goal.collect-requires
+collect-requires c =
+    let j = c in
+    let f = j in
+    let s = f in
+    let a = s.args in
+    rw (step j, unit f, bytes f)
+    (joined-room _ a.l a.memory.now a.collecting.now a.rules s.requires.3)
+
+pub keep-requires : goal.keep-requires
+keep-requires c =
+    let j = c in
+    let f = j in
+    let s = f in
+    omega (arith, s.requires.1, s.requires.2)
+
+pub put_notes-requires : goal.put_notes-requires
+put_notes-requires c =
+    let d = c in
+    let j = d in
+    let f = j in
+    let s = f in
+    omega (arith, s.requires.0, s.requires.1, d.keep.ensures.within.size)
+
+pub give-requires : goal.give-requires
+give-requires c =
+    let d = c in
+    let j = d in
+    let f = j in
+    let s = f in
+    let a = s.args in
+    let p = a.memory.now in
+    let k : a.l.start < 18446744073709551616 = omega (arith, s.well_formed) in
+    let n : a.rules.limit < 18446744073709551616 = omega (arith, s.well_formed) in
+    let z : length p < 18446744073709551616 = omega (arith, s.well_formed) in
+    let i = first-inside (bytes_at a.l p) a.l.packet.payload in
+    let w : (unit_in a.l p).start ≤ length (bytes_at a.l p) = omega (arith, i.ordered, i.within) in
+    rw (step j, unit f) (
+      omega (
+        arith,
+        s.requires.0,
+        s.requires.1,
+        c.put_notes.ensures.put.size,
+        d.keep.ensures.within.size,
+      ),
+      i.ordered,
+      part-reach _ a.l.start _ _ _ k z w,
+      joined-reach _ a.l p a.collecting.now a.rules s.requires.3 n,
+    )
+
+pub returns : goal.returns
+returns c =
+    let n = c in
+    let d = n in
+    let e = d in
+    let j = e in
+    let f = j in
+    let s = f in
+    let a = s.args in
+    joins-by a.t.now _ _ _ a.i a.k a.l a.memory.now a.collecting.now _ a.rules s.requires.0 _ _ _
+    (bytes f) (unit f) (step j) e.collect.ensures d.keep.ensures n.put_notes.ensures
+    c.give.ensures

@@ -1,0 +1,31 @@
+-- Why count meets its contract: two words change.
+use mathlib.Core.Bool.{true}
+use mathlib.Core.Path.{◌∙◌, ap}
+use native.Mathlib.Omega.{arith}
+use lib.ListN.{length-set}
+use Rattle.wire.specs.Words.{flag_of}
+use Rattle.state.specs.Lent.{state-at, state-owed}
+use Rattle.frames.specs.Slot.{counted}
+use Rattle.state.specs.Words.{state_in}
+use Rattle.state.specs.State.{State, with_owed}
+use Rattle.state.specs.Clean.{exact-on, exact-owed, exact-at}
+use Rattle.frames.proofs.slot.count.Goals as goal
+
+pub overflow_add-words : goal.overflow_add-words
+unfolding state_in
+overflow_add-words c = omega (arith, c.requires)
+
+pub bounds-words-21 : goal.bounds-words-21
+bounds-words-21 c = simp length-set (omega arith)
+
+pub returns : goal.returns
+unfolding state_in counted flag_of
+returns c =
+    let s = c in
+    record {
+      state =
+          state-owed _ 1 (simp length-set (omega (arith, s.requires)))
+          ∙ ap (λ (x : State). with_owed x true) (state-at s.args.words.now _ (omega (arith, s.requires)));
+      exact =
+          exact-on _ _ _ (exact-at s.args.words.now _) (exact-owed _ true (simp length-set (omega (arith, s.requires))));
+    }

@@ -1,0 +1,62 @@
+use Prim.Native.Nat.{ℕ, suc, ◌+◌, ◌-◌, ◌*◌, ◌%◌, ◌≤◌}
+use mathlib.Core.Path.{◌≡◌, refl, sym, ◌∙◌}
+use mathlib.Core.List.{List}
+use native.Mathlib.Omega.{arith}
+use lib.ListN.{length}
+use Rattle.lines.specs.Decimal.{four, without_groups, last_groups, length-four, length-groups}
+use Rattle.lines.specs.Text.{wrote, wrote_none, written-length, written-room, written-more}
+use Rattle.lines.proofs.decimal.put_groups.Goals as goal
+
+record Goes (out₀ : List ℕ) (at n k : ℕ) (out : List ℕ) (left end : ℕ) : Type 0 where
+  within : left ≤ 4
+  same : length out ≡ length out₀
+  room : end + 4 * left ≤ length out
+  whole : wrote out end (last_groups n left) ≡ wrote out₀ at (last_groups n k)
+
+turn : (out₀ out o : List ℕ) (at n k left end r : ℕ) → Goes out₀ at n k out (suc left) end
+    → (r, o) ≡ wrote out end (four (without_groups n left % 10000)) → Goes out₀ at n k o left r
+unfolding last_groups
+turn out₀ out o at n k left end r g e =
+    let i = g.room in
+    let s = g.same in
+    let f = length-four (without_groups n left % 10000) in
+    let l = written-length _ _ _ _ _ e (omega arith) in
+    let m = written-more out o end r _ e _ _ (last_groups n left) refl (omega (arith, length-groups n left)) in
+    record {
+      within = omega (arith, g.within);
+      same = l ∙ s;
+      room = written-room _ _ _ _ _ e (4 * left) (omega arith);
+      whole = m ∙ g.whole;
+    }
+
+pub loop-left-init : goal.loop-left-init
+loop-left-init c = let s = c in record { within = s.requires.0; same = refl; room = s.requires.1; whole = refl }
+
+pub overflow_sub-left : goal.overflow_sub-left
+overflow_sub-left c = omega arith
+
+pub put_group-end-requires : goal.put_group-end-requires
+put_group-end-requires c =
+    let i = c.loop-left.invariant in
+    (omega (arith, i.within), omega (arith, i.room))
+
+pub loop-left-smaller : goal.loop-left-smaller
+loop-left-smaller c = omega arith
+
+pub loop-left-preserved : goal.loop-left-preserved
+loop-left-preserved c =
+    let a = c in
+    let l = a in
+    let k = l.loop-left.left in
+    let z : k ≡ suc (k - 1) = omega arith in
+    turn _ _ _ _ _ _ _ _ _ (rw z at l.loop-left.invariant) a.put_group-end.ensures
+
+pub shape_of-out : goal.shape_of-out
+shape_of-out c = c.loop-left.invariant.same
+
+pub returns : goal.returns
+unfolding last_groups
+returns c =
+    let l = c.loop-left in
+    let z : l.left ≡ 0 = omega arith in
+    sym (wrote_none _ _) ∙ rw z at l.invariant.whole

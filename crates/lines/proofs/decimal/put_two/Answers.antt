@@ -1,0 +1,33 @@
+-- Why `put_two` meets its contract: one digit, or a pair.
+use Prim.Native.Nat.{ℕ, ◌<◌}
+use mathlib.Core.Path.{◌≡◌}
+use native.Mathlib.Omega.{arith}
+use lib.ListN.{length}
+use Rattle.lines.specs.Decimal.{decimal, decimal-one, decimal_two, length-pair}
+use Rattle.lines.specs.Text.{wrote-byte}
+use Rattle.lines.proofs.decimal.put_two.Goals as goal
+
+one-digit : (n : ℕ) → n < 10 → length (decimal n) ≡ 1
+one-digit n h = rw (decimal-one n h)
+
+pub bounds-out-at : goal.bounds-out-at
+bounds-out-at c = let s = c in omega (arith, one-digit s.args.n c.if-n-lt10.true)
+
+pub returns-then-n-lt10 : goal.returns-then-n-lt10
+returns-then-n-lt10 c =
+    let s = c in
+    let h = c.if-n-lt10.true in
+    rw (c.character.ensures, decimal-one _ h) (wrote-byte _ _ _ (omega (arith, one-digit s.args.n h)))
+
+pub put_pair-requires : goal.put_pair-requires
+put_pair-requires c =
+    let s = c in
+    let l = rw (decimal_two _ c.if-n-lt10.false s.requires.0) at s.requires.1 in
+    (omega arith, omega (arith, length-pair s.args.n))
+
+pub returns : goal.returns
+returns c =
+    let a = c in
+    let e = a in
+    let s = e in
+    rw (decimal_two _ e.if-n-lt10.false s.requires.0) a.put_pair.ensures

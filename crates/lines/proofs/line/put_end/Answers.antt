@@ -1,0 +1,14 @@
+-- Why `put_end` meets its contract: each part stands behind the one before.
+use native.Mathlib.Omega.{arith}
+use Rattle.lines.specs.Line.{end_line}
+use Rattle.lines.specs.Text.{put_four}
+use Rattle.lines.proofs.line.put_end.Goals as goal
+
+pub returns : goal.returns
+unfolding end_line
+returns c =
+    let a = c in
+    let b = a in
+    let c = b in
+    let d = c in
+    put_four d.put_word-first.ensures c.put_field-second.ensures b.put_field-third.ensures a.put_field.ensures (omega arith)

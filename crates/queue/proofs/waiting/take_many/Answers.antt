@@ -1,0 +1,55 @@
+-- Why take_many meets its contract: a unit, or none is left.
+use Prim.Native.Nat.{◌+◌, ◌≤◌, ◌<◌}
+use mathlib.Core.Path.{◌≡◌, sym, ◌∙◌}
+use native.Mathlib.Omega.{arith}
+use lib.ListN.{length, get_or}
+use Rattle.mmtp.specs.Unit.{unit-inside}
+use Rattle.wire.specs.Memory.{part-reach}
+use Rattle.queue.specs.Queue.{next_unit}
+use Rattle.queue.specs.Taking.{aggregate, takes_unit, takes_malformed, takes_end}
+use Rattle.queue.proofs.waiting.take_many.Goals as goal
+
+-- what stands at the next unit's place
+steps : (d : goal.After-unit_at-step) → let s = d in
+    next_unit (aggregate s.args.t.now s.args.i) s.args.memory.now ≡ d.unit_at-step.result
+steps d =
+    rw (
+      d.unit_at-step.ensures,
+      d.part-bytes.ensures,
+      d.distance-len.ensures,
+      d.load_packet-packet.ensures,
+    )
+
+pub whole-requires : goal.whole-requires
+whole-requires c =
+    let d = c in
+    let s = d in
+    let start = get_or s.args.t.now (s.args.i + 14) 0 in
+    let u = c.in-Unit.u in
+    let b = d.part-bytes in
+    let i = unit-inside _ _ _ _ _ (sym d.unit_at-step.ensures ∙ c.in-Unit.is) in
+    let w : u.start ≤ length b.result.now = omega (arith, i.ordered, i.within) in
+    let k : start < 18446744073709551616 =
+    omega (arith, d.slice-known2.given (s.args.i + 14)) in
+    (i.ordered, part-reach _ start _ _ _ k (omega arith) (rw b.ensures at w))
+
+pub returns-in-Unit : goal.returns-in-Unit
+returns-in-Unit c =
+    let d = c in
+    let s = d in
+    rw (c.whole.ensures, d.load_packet-packet.ensures)
+    (takes_unit s.args.t.now s.args.i s.args.memory.now _ s.requires (steps d ∙ c.in-Unit.is))
+
+pub returns-in-Malformed : goal.returns-in-Malformed
+returns-in-Malformed c =
+    let d = c in
+    let s = d in
+    takes_malformed s.args.t.now s.args.i s.args.memory.now _ s.requires
+    (steps d ∙ c.in-Malformed.is) c.put_none.ensures
+
+pub returns-in-End : goal.returns-in-End
+returns-in-End c =
+    let d = c in
+    let s = d in
+    takes_end s.args.t.now s.args.i s.args.memory.now _ s.requires
+    (steps d ∙ c.in-End.is) c.put_none-in-End.ensures

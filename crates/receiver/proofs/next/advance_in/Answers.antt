@@ -1,0 +1,15 @@
+-- Why advance_in meets its contract: the cursor is read, moved and stored.
+use Rattle.wire.specs.Words.{put-within}
+use Rattle.words.specs.Cursor.{cursor-put}
+use Rattle.state.specs.Clean.{exact-cursor}
+use Rattle.receiver.proofs.next.advance_in.Goals as goal
+
+pub returns : goal.returns
+returns c =
+    let d = c in
+    let a = d in
+    record {
+      moved = rw (cursor-put _ _ _ _ d.store_cursor.ensures) (rw a.load_cursor.ensures at a.advance-advanced.ensures);
+      within = put-within _ _ _ _ _ d.store_cursor.ensures.put;
+      exact = exact-cursor _ _ _ d.store_cursor.ensures;
+    }

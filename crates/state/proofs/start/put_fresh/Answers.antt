@@ -1,0 +1,24 @@
+-- Why put_fresh meets its contract: 0 in every word, then what start keeps, and no slot is due.
+use mathlib.Core.Path.{◌∙◌}
+use lib.ListN.{length-set}
+use Rattle.state.specs.Lent.{state-fresh}
+use Rattle.state.specs.Clean.{exact-fresh, fresh-clean}
+use Rattle.state.proofs.start.put_fresh.Goals as goal
+
+pub shape_of-words : goal.shape_of-words
+shape_of-words c =
+    let d = c in
+    simp length-set (d.store_config.ensures.put.size ∙ d.clear.ensures.size)
+
+pub returns : goal.returns
+returns c =
+    let d = c in
+    let e = d in
+    record {
+      sets =
+          record {
+            state = state-fresh _ _ _ _ e.requires e.clear.ensures d.store_config.ensures;
+            exact = exact-fresh _ _ _ _ e.clear.ensures d.store_config.ensures;
+          };
+      clean = fresh-clean _ _ _ _ e.clear.ensures d.store_config.ensures;
+    }

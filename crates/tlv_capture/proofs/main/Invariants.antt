@@ -1,0 +1,15 @@
+-- main is safe and ends: the measure is the number of turns that are left.
+use mathlib.Core.Path.{◌≡◌}
+use lib.ListN.{length}
+use Rattle.intake.specs.Slot.{packet_memory}
+use Rattle.state.specs.Words.{state_words}
+use Rattle.capture.specs.Command.{longest_command}
+use Rattle.tlv_capture.proofs.main.Given as goal
+
+abbrev pub invariant-loop-turns : goal.invariant-loop-turns
+invariant-loop-turns l =
+    (packet_memory ≡ length l.packet) × (65536 ≡ length l.collecting) × (longest_command ≡ length l.command) × (65536 ≡ length l.block)
+    × (65536 ≡ length l.out) × (state_words ≡ length l.words)
+
+abbrev pub decreases-loop-turns : goal.decreases-loop-turns
+decreases-loop-turns l = l.turns

@@ -1,0 +1,44 @@
+use Prim.Native.Nat.{◌-◌}
+use mathlib.Core.Path.{◌≡◌, refl, sym, ◌∙◌}
+use mathlib.Core.Logic.{⊎_elim}
+use native.Mathlib.Omega.{arith}
+use Rattle.tmcc.specs.Count.{count_below, last_below, count-one, last_one}
+use Rattle.tmcc.proofs.stream.find.Goals as goal
+
+pub loop-r-init : goal.loop-r-init
+unfolding count_below last_below
+loop-r-init c = (omega arith, omega arith, refl, refl)
+
+pub is_chosen-requires : goal.is_chosen-requires
+is_chosen-requires c = (omega arith, c.requires)
+
+pub loop-r-preserved : goal.loop-r-preserved
+loop-r-preserved c =
+    let d = c in
+    let l = d.loop-r in
+    ⊎_elim
+    (λ w.
+    let e = sym d.is_chosen.ensures ∙ w.0.taken in
+    (omega arith, omega arith, rw (w.1, count-one, e, l.invariant.2), rw (w.2, last_one, e)))
+    (λ w.
+    let e = sym d.is_chosen.ensures ∙ w.0.left in
+    (omega arith, omega arith, rw (w.1, count-one, e, l.invariant.2), rw (w.2, last_one, e, l.invariant.3)))
+    c.if-is_chosen.branch
+
+pub returns : goal.returns
+returns c =
+    let l = c.loop-r in
+    let e : l.r ≡ 16 = omega arith in
+    rw (rw e at l.invariant.2, rw e at l.invariant.3)
+
+pub overflow_cast-r : goal.overflow_cast-r
+overflow_cast-r c = omega arith
+
+pub overflow_add-count : goal.overflow_add-count
+overflow_add-count c = omega arith
+
+pub overflow_add-r : goal.overflow_add-r
+overflow_add-r c = omega arith
+
+pub loop-r-smaller : goal.loop-r-smaller
+loop-r-smaller c = omega arith

@@ -1,0 +1,47 @@
+-- Why store_channel meets its contract: the phase and the psn, the unit behind them, and two stores behind that.
+use Prim.Native.Nat.{◌+◌, ◌≤◌}
+use mathlib.Core.Path.{◌≡◌, refl, ◌∙◌}
+use mathlib.Core.List.{◌∷◌, ◌++◌}
+use native.Mathlib.Nat.{add-zero}
+use native.Mathlib.Omega.{arith}
+use lib.ListN.{length, length-set, length-append}
+use Rattle.wire.specs.Words.{put_from, stores, put_on}
+use Rattle.words.specs.Channel.{channel_words, phase_word, unit_words, length-unit}
+use Rattle.words.proofs.channel.store_channel.Goals as goal
+
+pub bounds-t-i-2 : goal.bounds-t-i-2
+bounds-t-i-2 c = simp length-set (omega arith)
+
+pub shape_of-t : goal.shape_of-t
+shape_of-t c =
+    let w = c in
+    let h = w in
+    simp length-set (w.store_unit.ensures.put.size ∙ h.store_heard.ensures.put.size)
+
+pub returns : goal.returns
+unfolding channel_words put_from
+returns c =
+    let s = c in
+    let t = s.args.t.now in
+    let i = s.args.i in
+    let ch = s.args.ch in
+    let u = ch.current.unit in
+    let h = c.store_heard in
+    let w = c.store_unit in
+    let xs = phase_word ch.phase ∷ ch.last.0 ∷ [] in
+    let ys = ch.current.counter ∷ ch.current.len ∷ [] in
+    let v = w.new.0 in
+    let e : i + 12 + 1 ≡ i + 13 = omega arith in
+    let l : i + 12 + 2 ≤ length v = omega (arith, s.requires, h.ensures.put.size, w.ensures.put.size) in
+    record {
+      put =
+          put_on t _ _ i 12 2 14 (xs ++ unit_words u) ys (rw (length-append, length-unit u)) refl
+          (put_on t _ _ i 2 10 12 xs (unit_words u) refl refl h.ensures.put w.ensures.put)
+          (rw (add-zero (i + 12), e) at (stores v (i + 12) 2 ys refl l));
+      sized =
+          record {
+            last = h.ensures.sized;
+            unit = w.ensures.sized;
+            counter = omega (arith, s.well_formed);
+          };
+    }
