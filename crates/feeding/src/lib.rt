@@ -1,3 +1,4 @@
 // Feeding: a capture's bytes in blocks of any size.
 #![tactic(auto)]
+
 pub mod feed;

@@ -1,5 +1,6 @@
 // Functions of C linkage, for programs in C or Rust to link; include/ixohuemil.h describes them.
 #![tactic(auto)]
+
 pub mod cut;
 pub mod events;
 pub mod pack;

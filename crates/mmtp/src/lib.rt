@@ -1,5 +1,6 @@
 // Packets: from a TLV packet to its MMTP packet, and from that to its header, its payload and its data units.
 #![tactic(auto)]
+
 pub mod flow;
 pub mod header;
 pub mod note;

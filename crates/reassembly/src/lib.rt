@@ -1,5 +1,6 @@
 // Reassembly: units joined from the pieces of one packet_id.
 #![tactic(auto)]
+
 pub mod channel;
 pub mod config;
 pub mod join;

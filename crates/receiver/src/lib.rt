@@ -1,4 +1,5 @@
 // The receiver: next and show, over start, frame and slot.
 #![tactic(auto)]
+
 pub mod next;
 pub mod show;

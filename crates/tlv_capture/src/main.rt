@@ -1,5 +1,6 @@
 // Reads a capture on standard input and prints its lines.
 #![tactic(auto)]
+
 mod pump;
 
 use capture::finish::{begin, finish};

@@ -17,6 +17,7 @@ module _ (t u : List ℕ) (i : ℕ) (b : Bool) (l : Located) (x : DataUnit) wher
       → GiveStored t u i (Many (record { packet = l.packet; start = l.start; end = l.end; at = l.packet.payload.start }))
       → GiveStored t u i (wholes_of b l x)
   wholes-many e s = rw e s
+
   wholes-one : b ≡ false → GiveStored t u i (One (whole_given l x)) → GiveStored t u i (wholes_of b l x)
   wholes-one e s = rw e s
 
