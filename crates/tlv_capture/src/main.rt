@@ -4,8 +4,10 @@
 mod pump;
 
 use capture::finish::{begin, finish};
-use libc::STDOUT_FILENO;
 use wire::memory::part;
+
+// The descriptor of standard output.
+const STDOUT_FILENO: i32 = 1;
 
 // The turns are counted down from a number that no run uses up.
 fn main() {

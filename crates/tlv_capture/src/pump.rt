@@ -5,8 +5,10 @@ ghost use Rattle.tlv_capture.specs.Pump.{fresh_pump, wants_of, filled_of, Refill
 use capture::pour::pour;
 use capture::session::Session;
 use feeding::feed::{feed, is_ended};
-use libc::STDIN_FILENO;
 use wire::memory::{distance, part};
+
+// The descriptor of standard input.
+const STDIN_FILENO: i32 = 0;
 
 // How far the capture has come.
 #[derive(Clone, Copy)]
