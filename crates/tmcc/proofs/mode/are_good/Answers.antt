@@ -1,8 +1,6 @@
-use Prim.Native.Nat.{◌*◌, ◌-◌, ◌+◌}
+use Prim.Native.Nat.{◌*◌, ◌+◌}
 use mathlib.Core.Path.{◌≡◌, refl, sym, ◌∙◌}
-use mathlib.Core.Bool.{true}
 use native.Mathlib.Omega.{arith}
-use borrow.Author.Tests.{not-true, not-false}
 use Rattle.tmcc.specs.Count.{all_below, all_one}
 use Rattle.tmcc.specs.Mode.{slots_of, slots-one, modes-bad, modes-all}
 use Rattle.tmcc.proofs.mode.are_good.Goals as goal
@@ -16,22 +14,22 @@ is_good-requires c = (omega arith, c.requires)
 
 pub returns-then-not-is_good : goal.returns-then-not-is_good
 returns-then-not-is_good c =
-    sym (modes-bad _ _ c.loop-k-test.true (sym c.is_good.ensures ∙ not-true _ c.if-not-is_good.true))
+    sym (modes-bad _ _ c.loop-k-test.true (sym c.is_good.ensures ∙ c.if-not-is_good.true))
 
 pub overflow_cast-slots : goal.overflow_cast-slots
-overflow_cast-slots c = omega (arith, c.shared-slice-known2.given (2 + 3 * c.loop-k.k))
+overflow_cast-slots c = omega (arith, c.type_inv.block (2 + 3 * c.loop-k.k))
 
 pub overflow_add-slots-in-loop-k : goal.overflow_add-slots-in-loop-k
-overflow_add-slots-in-loop-k c = omega (arith, c.shared-slice-known2.given (2 + 3 * c.loop-k.k))
+overflow_add-slots-in-loop-k c = omega (arith, c.type_inv.block (2 + 3 * c.loop-k.k))
 
 pub loop-k-preserved : goal.loop-k-preserved
 loop-k-preserved c =
     let d = c in
     let l = d.loop-k in (
       omega arith,
-      omega (arith, c.shared-slice-known2.given (2 + 3 * l.k)),
+      omega (arith, c.type_inv.block (2 + 3 * l.k)),
       rw (slots-one, ← l.invariant.2),
-      rw (all_one, l.invariant.3, ← d.is_good.ensures) (not-false _ d.if-not-is_good.false),
+      rw (all_one, l.invariant.3, ← d.is_good.ensures) d.if-not-is_good.false,
     )
 
 pub returns : goal.returns
