@@ -9,7 +9,7 @@ unfolding mode_of
 loop-k-init c = (omega arith, refl)
 
 pub overflow_cast-count : goal.overflow_cast-count
-overflow_cast-count c = omega (arith, c.shared-slice-known.given (2 + 3 * c.loop-k.k))
+overflow_cast-count c = omega (arith, c.type_inv.block (2 + 3 * c.loop-k.k))
 
 pub returns-then-left-count : goal.returns-then-left-count
 returns-then-left-count c =
