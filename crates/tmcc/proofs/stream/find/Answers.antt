@@ -1,9 +1,8 @@
-use Prim.Native.Nat.{◌-◌}
 use mathlib.Core.Path.{◌≡◌, refl, sym, ◌∙◌}
-use mathlib.Core.Logic.{⊎_elim}
 use native.Mathlib.Omega.{arith}
 use Rattle.tmcc.specs.Count.{count_below, last_below, count-one, last_one}
 use Rattle.tmcc.proofs.stream.find.Goals as goal
+use Rattle.tmcc.proofs.stream.find.Goals.{then-is_chosen, else-is_chosen}
 
 pub loop-r-init : goal.loop-r-init
 unfolding count_below last_below
@@ -14,16 +13,15 @@ is_chosen-requires c = (omega arith, c.requires)
 
 pub loop-r-preserved : goal.loop-r-preserved
 loop-r-preserved c =
-    let d = c in
-    let l = d.loop-r in
-    ⊎_elim
-    (λ w.
-    let e = sym d.is_chosen.ensures ∙ w.0.taken in
-    (omega arith, omega arith, rw (w.1, count-one, e, l.invariant.2), rw (w.2, last_one, e)))
-    (λ w.
-    let e = sym d.is_chosen.ensures ∙ w.0.left in
-    (omega arith, omega arith, rw (w.1, count-one, e, l.invariant.2), rw (w.2, last_one, e, l.invariant.3)))
-    c.if-is_chosen.branch
+    let l = c.loop-r in
+    elim c.if-is_chosen.branch
+      [ then-is_chosen w ↦
+        let e = sym c.is_chosen.ensures ∙ w.if-is_chosen.true in
+        (omega arith, omega arith, rw (w.count-is, count-one, e, l.invariant.2), rw (w.last-is, last_one, e))
+      | else-is_chosen w ↦
+        let e = sym c.is_chosen.ensures ∙ w.if-is_chosen.false in
+        (omega arith, omega arith, rw (w.count-is, count-one, e, l.invariant.2), rw (w.last-is, last_one, e, l.invariant.3))
+      ]
 
 pub returns : goal.returns
 returns c =
