@@ -1,10 +1,11 @@
 -- Why decode meets its contract: each return is one case of the definition.
-use mathlib.Core.Path.{◌≡◌, sym, ◌∙◌}
-use mathlib.Core.Bool.{true}
-use borrow.Author.Tests.{eqb-true, eqb-false, not-true, not-false}
+use mathlib.Core.Path.{◌≡◌, sym, ap, ◌∙◌}
+use mathlib.Core.Bool.{true, not}
+use borrow.Author.Tests.{eqb-true, eqb-false}
 use Rattle.tmcc.specs.Mode.{modes_good}
 use Rattle.tmcc.specs.Block.{refused-length, refused-modes, refused-streams, refused-own, accepts}
 use Rattle.tmcc.proofs.block.decode.Goals as goal
+use Rattle.tmcc.proofs.block.decode.Goals.{Else-not-are_good}
 
 pub returns-then-block-ne-BLOCK_BYTES : goal.returns-then-block-ne-BLOCK_BYTES
 returns-then-block-ne-BLOCK_BYTES c = c.refused.ensures ∙ sym (refused-length _ _ c.if-block-ne-BLOCK_BYTES.true)
@@ -12,18 +13,18 @@ returns-then-block-ne-BLOCK_BYTES c = c.refused.ensures ∙ sym (refused-length 
 pub returns-then-not-are_good : goal.returns-then-not-are_good
 returns-then-not-are_good c =
     let d = c in
-    let e = sym d.are_good.ensures ∙ not-true _ c.if-not-are_good.true in
+    let e = sym d.are_good.ensures ∙ c.if-not-are_good.true in
     c.refused-then-not-are_good.ensures ∙ sym (refused-modes _ _ d.if-block-ne-BLOCK_BYTES.false e)
 
-good : (c : goal.Else-not-are_good) → modes_good c.args.block.now ≡ true
-good c = sym c.are_good.ensures ∙ not-false _ c.if-not-are_good.false
+good : (c : Else-not-are_good) → modes_good c.args.block.now ≡ true
+good c = sym c.are_good.ensures ∙ c.if-not-are_good.false
 
 pub returns-then-streams-ne1 : goal.returns-then-streams-ne1
 returns-then-streams-ne1 c =
     let d = c in
     let e = d in
     c.refused-then-streams-ne1.ensures
-    ∙ sym (refused-streams _ _ e.if-block-ne-BLOCK_BYTES.false (good e) (rw d.find-streams.ensures at c.if-streams-ne1.true))
+    ∙ sym (refused-streams _ _ e.if-block-ne-BLOCK_BYTES.false (good (goal.at.returns-then-streams-ne1 c).Else-not-are_good) (rw d.find-streams.ensures at c.if-streams-ne1.true))
 
 pub returns-then-not-has_own : goal.returns-then-not-has_own
 returns-then-not-has_own c =
@@ -33,8 +34,8 @@ returns-then-not-has_own c =
     let n = f.find-streams.ensures in
     c.refused-then-not-has_own.ensures
     ∙ sym
-    (refused-own _ _ e.if-block-ne-BLOCK_BYTES.false (good e) (rw n at o.if-streams-ne1.false)
-    (eqb-true _ _ (rw n at (sym o.has_own.ensures ∙ c.if-not-has_own.true))))
+    (refused-own _ _ e.if-block-ne-BLOCK_BYTES.false (good (goal.at.returns-then-not-has_own c).Else-not-are_good) (rw n at o.if-streams-ne1.false)
+    (eqb-true _ _ (rw n at (sym o.has_own.ensures ∙ ap not c.if-not-has_own.true))))
 
 pub returns : goal.returns
 returns c =
@@ -47,7 +48,7 @@ returns c =
     (accepts _ _
     record {
       size = e.if-block-ne-BLOCK_BYTES.false;
-      modes = good e;
+      modes = good (goal.at.returns c).Else-not-are_good;
       one = rw n at o.if-streams-ne1.false;
-      some = eqb-false _ _ (rw n at (sym o.has_own.ensures ∙ c.if-not-has_own.false));
+      some = eqb-false _ _ (rw n at (sym o.has_own.ensures ∙ ap not c.if-not-has_own.false));
     }))
