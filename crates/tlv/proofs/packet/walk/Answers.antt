@@ -2,7 +2,6 @@ use Prim.Native.Nat.{ℕ, ◌-◌, ◌<◌}
 use mathlib.Core.Path.{◌≡◌, refl, sym, ◌∙◌}
 use mathlib.Core.Bool.{true}
 use mathlib.Core.List.{List}
-use borrow.Author.Tests.{not-true, not-false}
 use native.Mathlib.Omega.{arith}
 use lib.ListN.{length, drop}
 use Rattle.tlv.specs.Packet.{marked}
@@ -11,36 +10,37 @@ use Rattle.tlv.specs.Walks.{header-past, packet-past, packet-within, marked-at, 
 use Rattle.tlv.specs.Walks.{walk_unmarked, walk_tail, walk_on}
 use borrow.Author.Rules.{rules}
 use Rattle.tlv.proofs.packet.walk.Goals as goal
+use Rattle.tlv.proofs.packet.walk.Goals.{Else-not-good_first}
 
 pub loop-at-init : goal.loop-at-init
 loop-at-init c = (search rules, refl)
 
 -- past the loop's first test: the slot, the place, and that the byte there is good
-abbrev slot : goal.Else-not-good_first → List ℕ
+abbrev slot : Else-not-good_first → List ℕ
 slot d = d.args.s.now
 
-abbrev place : goal.Else-not-good_first → ℕ
+abbrev place : Else-not-good_first → ℕ
 place d = d.loop-at.at
 
-good : (d : goal.Else-not-good_first → marked (drop (place d) (slot d)) ≡ true
+good : (d : Else-not-good_first) → marked (drop (place d) (slot d)) ≡ true
 good d =
-    marked-at _ _ d.loop-at-test.true ∙ sym d.good_first.ensures ∙ not-false _ d.if-not-good_first.false
+    marked-at _ _ d.loop-at-test.true ∙ sym d.good_first.ensures ∙ d.if-not-good_first.false
 
 pub returns-then-not-good_first : goal.returns-then-not-good_first
 returns-then-not-good_first c =
     let d = c in
-    let bad = marked-at _ _ d.loop-at-test.true ∙ sym c.good_first.ensures ∙ not-true _ c.if-not-good_first.true in
+    let bad = marked-at _ _ d.loop-at-test.true ∙ sym c.good_first.ensures ∙ c.if-not-good_first.true in
     sym (walk_unmarked _ _ bad) ∙ d.loop-at.invariant.1
 
 pub returns-then-s-at-lt4 : goal.returns-then-s-at-lt4
 returns-then-s-at-lt4 c =
-    let d = c in
+    let d = (goal.at.returns-then-s-at-lt4 c).Else-not-good_first in
     let l = d.loop-at in
     sym (walk_tail _ _ l.invariant.0 (good d) (header-past (slot d) (place d) c.if-s-at-lt4.true)) ∙ l.invariant.1
 
 pub returns-then-s-at : goal.returns-then-s-at
 returns-then-s-at c =
-    let d = c in
+    let d = (goal.at.returns-then-s-at c).Else-not-good_first in
     let l = d.loop-at in
     let past = rw c.total_at-n.ensures.0 at c.if-s-at.true in
     let short = packet-past (slot d) (place d) c.if-s-at-lt4.false past in
@@ -48,12 +48,12 @@ returns-then-s-at c =
 
 pub loop-at-smaller : goal.loop-at-smaller
 loop-at-smaller c =
-    let d = c in
+    let d = (goal.at.loop-at-smaller c).Else-not-good_first in
     omega (arith, c.total_at-n.ensures.0, total-bytes (drop (place d) (slot d)))
 
 pub loop-at-preserved : goal.loop-at-preserved
 loop-at-preserved c =
-    let d = c in
+    let d = (goal.at.loop-at-preserved c).Else-not-good_first in
     let l = d.loop-at in
     let within = rw c.total_at-n.ensures.0 at c.if-s-at.false in
     let whole = packet-within (slot d) (place d) c.if-s-at-lt4.false within in
