@@ -21,8 +21,5 @@ returns-in-Unmarked c =
 
 pub returns-in-Tail : goal.returns-in-Tail
 returns-in-Tail c =
-    let e = c in
-    let d = e in
-    let w = c.w.given in
     rw c.last_pointer.ensures
-    (sym (sound-tail _ _ _ d.if-top-eq-NONE.false d.if-len-t.false w.0.0 (sym e.walk-w.ensures ∙ w.1)))
+    (sym (sound-tail _ _ _ c.if-top-eq-NONE.false c.if-len-t.false _ (sym c.walk-w.ensures ∙ c.in-Tail.is)))
