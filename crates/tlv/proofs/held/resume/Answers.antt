@@ -4,6 +4,7 @@ use mathlib.Core.Path.{◌≡◌, sym, ◌∙◌}
 use Rattle.tlv.specs.Packet.{max_packet}
 use Rattle.tlv.specs.Held.{held_total, held_end, nothing-held, held_too_long, held-without-top, held-before-top}
 use Rattle.tlv.proofs.held.resume.Goals as goal
+use Rattle.tlv.proofs.held.resume.Goals.{After-distance-end, Else-total-gt-MAX_PACKET}
 
 pub returns-then-n-eq0 : goal.returns-then-n-eq0
 returns-then-n-eq0 c = c.before_top.ensures ∙ sym (nothing-held _ _ _ _ c.if-n-eq0.true)
@@ -13,23 +14,23 @@ returns-then-total-gt-MAX_PACKET c =
     sym (held_too_long _ _ _ _ c.if-n-eq0.false (rw c.total_across-total.ensures.0 at c.if-total-gt-MAX_PACKET.true))
 
 -- past the tests of length and total: where the held packet ends
-ends : (d : goal.After-distance-end)
+ends : (d : After-distance-end)
     → let a = d.args in d.distance-end.result ≡ held_end a.held.now a.s.now
 unfolding held_end
 ends d = rw (d.distance-end.ensures, d.total_across-total.ensures.0)
 
 -- and that its total is kept
-kept : (d : goal.Else-total-gt-MAX_PACKET) → let a = d.args in held_total a.held.now a.s.now ≤ max_packet
+kept : (d : Else-total-gt-MAX_PACKET) → let a = d.args in held_total a.held.now a.s.now ≤ max_packet
 kept d = rw d.total_across-total.ensures.0 at d.if-total-gt-MAX_PACKET.false
 
 pub returns-then-top-eq-NONE : goal.returns-then-top-eq-NONE
 returns-then-top-eq-NONE c =
     let d = c in
-    rw (ends c) at c.without_top.ensures
-    ∙ sym (held-without-top _ _ _ _ d.if-n-eq0.false (kept d) c.if-top-eq-NONE.true)
+    rw (ends (goal.at.returns-then-top-eq-NONE c).After-distance-end) at c.without_top.ensures
+    ∙ sym (held-without-top _ _ _ _ d.if-n-eq0.false (kept (goal.at.returns-then-top-eq-NONE c).Else-total-gt-MAX_PACKET) c.if-top-eq-NONE.true)
 
 pub returns-else-top-eq-NONE : goal.returns-else-top-eq-NONE
 returns-else-top-eq-NONE c =
     let d = c in
-    rw (ends c) at c.before_top-else-top-eq-NONE.ensures
-    ∙ sym (held-before-top _ _ _ _ d.if-n-eq0.false (kept d) c.if-top-eq-NONE.false)
+    rw (ends (goal.at.returns-else-top-eq-NONE c).After-distance-end) at c.before_top-else-top-eq-NONE.ensures
+    ∙ sym (held-before-top _ _ _ _ d.if-n-eq0.false (kept (goal.at.returns-else-top-eq-NONE c).Else-total-gt-MAX_PACKET) c.if-top-eq-NONE.false)
