@@ -14,14 +14,14 @@ is_chosen-requires c = (omega arith, c.requires)
 pub loop-r-preserved : goal.loop-r-preserved
 loop-r-preserved c =
     let l = c.loop-r in
-    elim c.if-is_chosen.branch
-      [ then-is_chosen w ↦
-        let e = sym c.is_chosen.ensures ∙ w.if-is_chosen.true in
-        (omega arith, omega arith, rw (w.count-is, count-one, e, l.invariant.2), rw (w.last-is, last_one, e))
+    elim c.if-is_chosen.branch [
+      | then-is_chosen w ↦
+          let e = sym c.is_chosen.ensures ∙ w.if-is_chosen.true in
+          (omega arith, omega arith, rw (w.count-is, count-one, e, l.invariant.2), rw (w.last-is, last_one, e))
       | else-is_chosen w ↦
-        let e = sym c.is_chosen.ensures ∙ w.if-is_chosen.false in
-        (omega arith, omega arith, rw (w.count-is, count-one, e, l.invariant.2), rw (w.last-is, last_one, e, l.invariant.3))
-      ]
+          let e = sym c.is_chosen.ensures ∙ w.if-is_chosen.false in
+          (omega arith, omega arith, rw (w.count-is, count-one, e, l.invariant.2), rw (w.last-is, last_one, e, l.invariant.3))
+    ]
 
 pub returns : goal.returns
 returns c =
