@@ -1,15 +1,8 @@
 -- Why find_compressed meets its contract: length, CID, header type and length behind it, in the definition's order.
-use mathlib.Core.Path.{◌≡◌, sym, ◌∙◌}
-use Rattle.mmtp.specs.Flow.{behind, compressed_of, under_3-bytes, other-cid, own-cid, start_bounds, behind-cut, behind-whole}
+use mathlib.Core.Path.{sym, ◌∙◌}
+use Rattle.mmtp.specs.Flow.{behind, under_3-bytes, other-cid, own-cid, start_bounds, behind-cut, behind-whole}
 use native.Mathlib.Omega.{arith}
 use Rattle.mmtp.proofs.flow.find_compressed.Goals as goal
-
--- past the test of the CID
-own : (d : goal.After-compressed_header-header) → let a = d.args in
-    compressed_of a.packet.now a.cid ≡ behind d.compressed_header-header.result a.packet.now
-own d =
-    let read = d in
-    rw d.compressed_header-header.ensures (own-cid _ _ read.if-len-lt7.false (omega (arith, read.read16.ensures)))
 
 pub returns-then-len-lt7 : goal.returns-then-len-lt7
 returns-then-len-lt7 c = sym (under_3-bytes _ _ c.if-len-lt7.true)
@@ -24,14 +17,16 @@ overflow_add-start c =
 
 pub returns-then-len-start : goal.returns-then-len-start
 returns-then-len-start c =
-    let d = c in
-    sym (own d ∙ rw d.in-Start.is (behind-cut _ _ c.if-len-start.true))
+    let own = own-cid c.args.packet.now c.args.cid c.if-len-lt7.false (omega (arith, c.read16.ensures)) in
+    sym (own ∙ rw (← c.compressed_header-header.ensures, c.in-Start.is) (behind-cut _ _ c.if-len-start.true))
 
 pub returns-else-len-start : goal.returns-else-len-start
 returns-else-len-start c =
-    let d = c in
-    sym (own d ∙ rw d.in-Start.is (behind-whole _ _ c.if-len-start.false))
+    let own = own-cid c.args.packet.now c.args.cid c.if-len-lt7.false (omega (arith, c.read16.ensures)) in
+    sym (own ∙ rw (← c.compressed_header-header.ensures, c.in-Start.is) (behind-whole _ _ c.if-len-start.false))
 
 pub returns-in-Reserved : goal.returns-in-Reserved
 unfolding behind
-returns-in-Reserved c = sym (own c ∙ rw c.in-Reserved.is)
+returns-in-Reserved c =
+    let own = own-cid c.args.packet.now c.args.cid c.if-len-lt7.false (omega (arith, c.read16.ensures)) in
+    sym (own ∙ rw (← c.compressed_header-header.ensures, c.in-Reserved.is))

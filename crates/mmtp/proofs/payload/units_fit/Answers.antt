@@ -8,4 +8,4 @@ returns-then-p c = rw c.if-p.true c.aggregate_fits.ensures
 
 pub returns : goal.returns
 unfolding units_fit
-returns c = rw c.if-p.false c.single_fits_lem.ensures
+returns c = rw c.if-p.false c.single_fits.ensures

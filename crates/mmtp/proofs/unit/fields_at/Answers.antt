@@ -1,5 +1,7 @@
 -- Why fields_at meets its contract: a field of the rest is a field of the packet.
-use Prim.Native.Nat.{◌+◌, ◌≤◌}
+use Prim.Native.Nat.{ℕ, ◌+◌, ◌≤◌}
+use mathlib.Core.Path.{◌≡◌}
+use mathlib.Core.List.{List}
 use native.Mathlib.Nat.{add-zero}
 use native.Mathlib.Omega.{arith}
 use borrow.Author.Tests.{ne_eqb}
@@ -10,24 +12,24 @@ use Rattle.mmtp.specs.Unit.{field_bytes, fields_of}
 use Rattle.mmtp.proofs.unit.fields_at.Goals as goal
 
 -- the 14 bytes of kind 2
-timed : (c : goal.In-2) → c.args.at + 14 ≤ length c.args.m.now
+timed : (m : List ℕ) (i kind : ℕ) → kind ≡ 2 → i + field_bytes kind ≤ length m → i + 14 ≤ length m
 unfolding field_bytes
-timed c = rw c.in-2.is at c.requires
+timed m i kind two room = rw two at room
 
 pub read32-requires : goal.read32-requires
-read32-requires c = omega (arith, timed c)
+read32-requires c = omega (arith, timed _ _ _ c.in-2.is c.requires)
 
 pub read32-requires-in-2 : goal.read32-requires-in-2
-read32-requires-in-2 c = omega (arith, timed c)
+read32-requires-in-2 c = omega (arith, timed _ _ _ c.in-2.is c.requires)
 
 pub read32-requires-in-2-2 : goal.read32-requires-in-2-2
-read32-requires-in-2-2 c = omega (arith, timed c)
+read32-requires-in-2-2 c = omega (arith, timed _ _ _ c.in-2.is c.requires)
 
 pub bounds-m-at : goal.bounds-m-at
-bounds-m-at c = omega (arith, timed c)
+bounds-m-at c = omega (arith, timed _ _ _ c.in-2.is c.requires)
 
 pub bounds-m-at-in-2 : goal.bounds-m-at-in-2
-bounds-m-at-in-2 c = omega (arith, timed c)
+bounds-m-at-in-2 c = omega (arith, timed _ _ _ c.in-2.is c.requires)
 
 pub read32-requires-in-3 : goal.read32-requires-in-3
 unfolding field_bytes
