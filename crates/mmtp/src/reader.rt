@@ -4,8 +4,7 @@ ghost use Rattle.mmtp.specs.Unit.{place_behind, aggregate};
 
 use crate::unit;
 
-// An MMTP packet, and where the next unit of its aggregate begins. No function over it is covered by the borrow checker: each is
-// proved by hand, so they are few and short, and the work is done by a function on a slice and a place.
+// An MMTP packet, and where the next unit of its aggregate begins.
 #[derive(Clone, Copy)]
 pub struct UnitReader<'a> {
     pub packet: &'a [u8],
