@@ -82,8 +82,8 @@ fi
 
 # The installation, from a copy that has what it would build, and a program that uses what it put there.
 copy=$made/copy
-mkdir -p "$copy/target/bin" "$copy/target/staticlib" && cp -R include docs tools "$copy"
-cp "$OTHER_CAPTURE" "$copy/target/bin/tlv_capture" && cp "$IXOHUEMIL_LIB" "$copy/target/staticlib/libixohuemil.a"
+mkdir -p "$copy/crates/tlv_capture/out" "$copy/crates/ixohuemil/out" && cp -R include docs tools "$copy"
+cp "$OTHER_CAPTURE" "$copy/crates/tlv_capture/out/tlv_capture" && cp "$IXOHUEMIL_LIB" "$copy/crates/ixohuemil/out/libixohuemil.a"
 installed=$made/there/opt/receiver
 check "tools/install" env DESTDIR="$made/there" "$copy/tools/install" /opt/receiver
 for file in bin/tlv_capture include/ixohuemil.h lib/libixohuemil.a lib/pkgconfig/ixohuemil.pc share/man/man1/tlv_capture.1 \

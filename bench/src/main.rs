@@ -26,7 +26,7 @@ use processes::Programs;
 use table::Times;
 
 /// Where `rt check tlv_capture` writes the capture program.
-const TLV_CAPTURE: &str = concat!(env!("CARGO_MANIFEST_DIR"), "/../target/bin/tlv_capture");
+const TLV_CAPTURE: &str = concat!(env!("CARGO_MANIFEST_DIR"), "/../crates/tlv_capture/out/tlv_capture");
 
 /// What the figures mean.
 const PROCESSES: &str = "

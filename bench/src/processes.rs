@@ -61,7 +61,7 @@ pub struct Programs {
 impl Programs {
     pub fn new(proved: &Path) -> Result<Self, Box<dyn Error>> {
         if !proved.is_file() {
-            let what = "is not there: rt check tlv_capture writes target/bin/tlv_capture";
+            let what = "is not there: tools/build writes crates/tlv_capture/out/tlv_capture";
             return Err(format!("{} {what}", proved.display()).into());
         }
         Ok(Programs {

@@ -10,14 +10,14 @@ fn main() {
         Some(path) => PathBuf::from(path),
         None => {
             let root = env::var_os("CARGO_MANIFEST_DIR").expect("cargo names the crate's folder");
-            Path::new(&root).join("../../target/staticlib/libixohuemil.a")
+            Path::new(&root).join("../../crates/ixohuemil/out/libixohuemil.a")
         }
     };
     match linked(&archive) {
         Ok(lines) => println!("{lines}"),
         Err(fault) => {
             eprintln!("{}: {fault}", archive.display());
-            eprintln!("Build it by `rt staticlib ixohuemil`, or set IXOHUEMIL_LIB to the whole path of libixohuemil.a.");
+            eprintln!("Build it by `tools/build`, or set IXOHUEMIL_LIB to the whole path of libixohuemil.a.");
             std::process::exit(1);
         }
     }

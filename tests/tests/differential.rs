@@ -14,7 +14,7 @@ fn differential(program: &str, count: &str) -> Output {
 #[test]
 fn the_other_program_gives_the_same_lines() {
     let Ok(program) = std::env::var("OTHER_CAPTURE") else {
-        panic!("OTHER_CAPTURE is not set: it is the path of target/bin/tlv_capture (see .ci/run)");
+        panic!("OTHER_CAPTURE is not set: it is the path of crates/tlv_capture/out/tlv_capture (see .ci/run)");
     };
     let output = differential(&program, COUNT);
     let text = String::from_utf8_lossy(&[output.stdout, output.stderr].concat()).into_owned();

@@ -45,6 +45,6 @@ mod wild;
 #[test]
 fn the_library_is_linked() {
     panic!(
-        "IXOHUEMIL_LIB is not set: it is the whole path of target/staticlib/libixohuemil.a (see .ci/run)"
+        "IXOHUEMIL_LIB is not set: it is the whole path of crates/ixohuemil/out/libixohuemil.a (see .ci/run)"
     );
 }
