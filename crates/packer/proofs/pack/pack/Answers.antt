@@ -1,5 +1,5 @@
 -- Why pack meets its contract: each return is one case of the definition.
-use Rattle.std.proofs.Common.{◌≡◌, ℕ, ◌*◌, ◌<◌, ◌≤◌, length, sym, arith}
+use Rattle.std.proofs.Common.{◌≡◌, ℕ, ◌*◌, ◌≤◌, length, sym, arith}
 use Rattle.packer.specs.Pieces.{count_by, count_of, max_pieces}
 use Rattle.packer.proofs.Pieces.{Bounded, count_bounded}
 use Rattle.packer.proofs.Refusals.{small, size-zero, size_large, kind_large, too_many, output-short, cid_large, accepted}

@@ -1,4 +1,4 @@
-use Rattle.std.proofs.Common.{◌≡◌, ◌+◌, ◌-◌, [], length, refl, ◌∙◌, arith, rules}
+use Rattle.std.proofs.Common.{◌≡◌, ◌+◌, [], length, refl, ◌∙◌, arith, rules}
 use Rattle.wire.specs.Memory.{pasted-zero}
 use Rattle.packer.specs.Packer.{packed}
 use Rattle.packer.specs.Writing.{planned}

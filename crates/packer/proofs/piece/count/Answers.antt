@@ -1,5 +1,4 @@
-use Rattle.std.proofs.Common.{◌≡◌, ℕ, suc, ◌+◌, ◌-◌, add_comm, arith}
-use Rattle.packer.specs.Pieces.{max_pieces}
+use Rattle.std.proofs.Common.{◌≡◌, suc, ◌+◌, ◌-◌, add_comm, arith}
 use Rattle.packer.proofs.Pieces.{count_stop, count-last, count_next}
 use Rattle.packer.proofs.piece.count.Invariants.{stop}
 use Rattle.packer.proofs.piece.count.Goals as goal
