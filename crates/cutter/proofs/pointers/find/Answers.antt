@@ -1,10 +1,8 @@
-use Prim.Native.Nat.{ℕ, ◌+◌, ◌-◌, ◌≤◌, ◌<◌}
+use Prim.Native.Nat.{◌+◌, ◌≤◌, ◌<◌}
 use mathlib.Core.Path.{refl, ◌∙◌}
-use mathlib.Core.List.{List}
 use native.Mathlib.Omega.{arith}
-use lib.ListN.{length, drop}
+use lib.ListN.{length}
 use borrow.Author.Rules.{rules}
-use Rattle.tlv.specs.Packet.{total}
 use Rattle.tlv.specs.Cuts.{cut-sized}
 use Rattle.cutter.specs.Pointers.{top_of, last_of, pointers_of}
 use Rattle.cutter.proofs.Packets.{fits-here, whole-next, top-next, last-next}
@@ -15,42 +13,30 @@ pub loop-at-init : goal.loop-at-init
 unfolding top_of last_of
 loop-at-init c = (search rules, c.requires.0, refl, refl)
 
--- in the loop: the run, the place, and the packet that stands there
-abbrev slice : goal.In-loop-at → List ℕ
-slice d = d.args.run.now
-
-abbrev place : goal.In-loop-at → ℕ
-place d = d.loop-at.at
-
-inside : (d : goal.In-loop-at → place d < length (slice d)
-inside d = omega arith
-
-standing : (d : goal.In-loop-at
-    → (4 ≤ total (drop (place d) (slice d))) × (place d + total (drop (place d) (slice d)) ≤ length (slice d))
-standing d = fits-here (slice d) (place d) (inside d) d.loop-at.invariant.1
-
 pub total_at-requires : goal.total_at-requires
-total_at-requires c = omega (arith, standing c)
+total_at-requires c = omega (arith, fits-here c.args.run.now c.loop-at.at (omega arith) c.loop-at.invariant.1)
 
 pub overflow_add-end : goal.overflow_add-end
-overflow_add-end c = omega (arith, standing c, c.total_at.ensures.0)
+overflow_add-end c = omega (arith, fits-here c.args.run.now c.loop-at.at (omega arith) c.loop-at.invariant.1, c.total_at.ensures.0)
 
 pub last_with-last-requires : goal.last_with-last-requires
-last_with-last-requires c = omega (arith, standing c, c.total_at.ensures.0)
+last_with-last-requires c = omega (arith, fits-here c.args.run.now c.loop-at.at (omega arith) c.loop-at.invariant.1, c.total_at.ensures.0)
 
 pub loop-at-smaller : goal.loop-at-smaller
-loop-at-smaller c = omega (arith, standing c, c.total_at.ensures.0)
+loop-at-smaller c = omega (arith, fits-here c.args.run.now c.loop-at.at (omega arith) c.loop-at.invariant.1, c.total_at.ensures.0)
 
 pub loop-at-preserved : goal.loop-at-preserved
 loop-at-preserved c =
-    let d = c in
-    let i = d.loop-at.invariant in
-    let a = d.args in
+    let i = c.loop-at.invariant in
+    let a = c.args in
+    let s = a.run.now in
+    let at = c.loop-at.at in
+    let h : at < length s = omega arith in
     rw (c.top_with-top.ensures, c.last_with-last.ensures, c.total_at.ensures.0) (
-      (standing d).1,
-      whole-next (slice d) (place d) (inside d) i.1,
-      top-next (slice d) (place d) (inside d) i.1 a.from a.l (omega arith) _ ∙ i.2,
-      last-next (slice d) (place d) (inside d) i.1 a.from a.l _ ∙ i.3,
+      (fits-here s at h i.1).1,
+      whole-next s at h i.1,
+      top-next s at h i.1 a.from a.l (omega arith) _ ∙ i.2,
+      last-next s at h i.1 a.from a.l _ ∙ i.3,
     )
 
 pub returns : goal.returns

@@ -1,6 +1,7 @@
 -- Why find meets its contract: the pointers so far, with the packets from the place that the loop comes to, are the slot's.
 use Prim.Native.Nat.{◌-◌, ◌≤◌}
 use mathlib.Core.Path.{◌≡◌}
+use mathlib.Core.List.{[]}
 use lib.ListN.{length, drop}
 use Rattle.tlv.specs.Packet.{cut}
 use Rattle.cutter.specs.Pointers.{top_of, last_of}

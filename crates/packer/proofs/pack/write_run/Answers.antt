@@ -1,4 +1,4 @@
-use Rattle.std.proofs.Common.{◌≡◌, ◌+◌, ◌-◌, length, refl, ◌∙◌, arith, rules}
+use Rattle.std.proofs.Common.{◌≡◌, ◌+◌, [], length, refl, ◌∙◌, arith, rules}
 use Rattle.wire.specs.Memory.{pasted-zero}
 use Rattle.packer.specs.Packer.{packed}
 use Rattle.packer.specs.Writing.{planned}
@@ -9,34 +9,33 @@ use Rattle.packer.proofs.pack.write_run.Goals as goal
 pub loop-i-init : goal.loop-i-init
 unfolding packed
 loop-i-init c =
-    let g = c in
-    let a = g.args in
-    (search rules, refl, omega (arith, left-fits a.plan a.bytes.now (length a.output.now) g.requires), refl)
+    let a = c.args in
+    (search rules, refl, omega (arith, left-fits a.plan a.bytes.now (length a.output.now) c.requires), refl)
 
 pub write_piece-at-requires : goal.write_piece-at-requires
 write_piece-at-requires c =
-    let g = c in
-    let a = g.args in
+    let a = c.args in
     let l = c.loop-i in
     let h = c.loop-i-test.true in
-    let n = left-length a.plan a.bytes.now (length a.output.now) g.requires l.i h in
-    (rw l.invariant.1 g.requires, (h, omega (arith, n, l.invariant.1, l.invariant.2)))
+    let n = left-length a.plan a.bytes.now (length a.output.now) c.requires l.i h in
+    record {
+      planned = rw l.invariant.1 c.requires;
+      i_lt_n = (h, omega (arith, n, l.invariant.1, l.invariant.2));
+    }
 
 pub loop-i-preserved : goal.loop-i-preserved
 loop-i-preserved c =
-    let d = c in
-    let g = d in
-    let a = g.args in
+    let a = c.args in
     let p = a.plan in
     let s = a.bytes.now in
-    let l = d.loop-i in
-    let h = d.loop-i-test.true in
-    let n = left-length p s (length a.output.now) g.requires l.i h in
-    let t = left_step p s (length a.output.now) g.requires l.i h in
-    let e = d.write_piece-at.ensures in
+    let l = c.loop-i in
+    let h = c.loop-i-test.true in
+    let n = left-length p s (length a.output.now) c.requires l.i h in
+    let t = left_step p s (length a.output.now) c.requires l.i h in
+    let e = c.write_piece-at.ensures in
     let r = l.invariant in (
       omega (arith, h),
-      omega (arith, d.write_piece-at.auto, r.1),
+      omega (arith, c.write_piece-at.auto, r.1),
       omega (arith, n, e.ends, r.2),
       turn l.output _ (planned p l.i s) (left p s (l.i + 1)) (left p s l.i) l.at _ t e.writes e.ends
           (omega (arith, r.1, r.2))
@@ -45,11 +44,10 @@ loop-i-preserved c =
 
 pub returns : goal.returns
 returns c =
-    let g = c in
-    let a = g.args in
+    let a = c.args in
     let p = a.plan in
     let s = a.bytes.now in
     let l = c.loop-i in
     let i : l.i ≡ p.n = omega (arith, c.loop-i-test.false, l.invariant.0) in
-    let e : left p s l.i ≡ [] = rw i (left-none p s (length a.output.now) g.requires) in
+    let e : left p s l.i ≡ [] = rw i (left-none p s (length a.output.now) c.requires) in
     pasted-zero l.output l.at [] ∙ rw (e, rest_all p.unit p.cid p.sn p.m s) at l.invariant.3

@@ -1,5 +1,5 @@
 -- Why write_outer meets its contract: its fields, one behind the other.
-use Rattle.std.proofs.Common.{◌+◌, ◌*◌, ◌∷◌, refl, arith}
+use Rattle.std.proofs.Common.{◌+◌, ◌*◌, [], ◌∷◌, refl, arith}
 use Rattle.wire.specs.Field.{bytes_of}
 use Rattle.packer.specs.Packet.{outer_head}
 use Rattle.packer.proofs.Written.{wrote, behind}

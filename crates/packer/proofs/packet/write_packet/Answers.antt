@@ -1,89 +1,64 @@
 -- Why write_packet meets its contract: its parts, one behind the other.
-use Rattle.std.proofs.Common.{◌≡◌, ℕ, ◌+◌, ◌≤◌, List, ◌++◌, length, refl, ap, ◌∙◌, append_assoc, arith, rules}
+use Rattle.std.proofs.Common.{◌≡◌, ℕ, ◌+◌, List, ◌++◌, length, refl, ap, ◌∙◌, append_assoc, arith, rules}
 use Rattle.wire.specs.Memory.{pasted}
 use Rattle.packer.specs.Packet.{outer_head, mmtp_head, payload_head, fields_written, data_unit, mmtp_of, packet_of}
-use Rattle.packer.specs.Writing.{payload_head_bytes, head_bytes}
-use Rattle.mmtp.specs.Unit.{field_bytes}
+use Rattle.packer.specs.Writing.{head_bytes}
 use Rattle.packer.proofs.Lengths.{sizes, length_outer, length_mmtp_head, length_payload_head}
 use Rattle.packer.proofs.Lengths.{length_fields, length-unit, length_mmtp}
 use Rattle.packer.proofs.Written.{wrote, behind}
 use Rattle.packer.proofs.packet.write_packet.Goals as goal
 
--- the sizes of the parts, and the room for them
-sized : (d : goal.After-field_bytes)
-    → let a = d.args in
-    let k = a.p.unit.kind in
-    (d.field_bytes.result ≡ field_bytes k) × (d.payload_head_bytes-head.result ≡ payload_head_bytes k)
-    × (head_bytes k ≡ 19 + payload_head_bytes k + field_bytes k) × (payload_head_bytes k ≤ 8) × (field_bytes k ≤ 14)
-    × (a.at + (head_bytes k + length a.bytes.now) ≤ length a.output.now) × (length a.bytes.now ≤ 1400)
-sized d =
-    let g = d in
-    let z = sizes g.args.p.unit.kind in
-    (d.field_bytes.ensures, d.payload_head_bytes-head.ensures.0, z.0, z.1, z.2, g.requires.fits, g.requires.small)
-
 pub overflow_add-len : goal.overflow_add-len
-overflow_add-len c = omega (arith, sized c)
+overflow_add-len c = omega (arith, sizes c.args.p.unit.kind)
 
 pub overflow_add-head-2 : goal.overflow_add-head-2
-overflow_add-head-2 c = omega (arith, sized c)
+overflow_add-head-2 c = omega (arith, sizes c.args.p.unit.kind)
 
 pub overflow_cast-head : goal.overflow_cast-head
-overflow_cast-head c = omega (arith, sized c)
+overflow_cast-head c = omega (arith, sizes c.args.p.unit.kind)
 
 pub write_outer-requires : goal.write_outer-requires
 write_outer-requires c =
     let w = c.requires in
-    (omega (arith, sized c), w.cids, w.sns)
+    (omega (arith, sizes c.args.p.unit.kind), w.cids, w.sns)
 
 pub write_mmtp-requires : goal.write_mmtp-requires
-write_mmtp-requires c = let z = sized c in search rules
+write_mmtp-requires c = let z = sizes c.args.p.unit.kind in search rules
 
 pub overflow_cast-len : goal.overflow_cast-len
-overflow_cast-len c = omega (arith, sized c)
+overflow_cast-len c = omega (arith, sizes c.args.p.unit.kind)
 
 pub write_payload_head-requires : goal.write_payload_head-requires
 write_payload_head-requires c =
-    let d = c in
-    let z = sized d in
-    (search rules, d.requires.kinds, omega (arith, z))
+    let z = sizes c.args.p.unit.kind in
+    (omega (arith, z), c.requires.kinds, omega (arith, z))
 
 pub write_fields-requires : goal.write_fields-requires
 write_fields-requires c =
-    let x3 = c in
-    let x2 = x3 in
-    let x1 = x2 in
-    let z = sized x1 in
-    omega (arith, z, x3.write_payload_head.auto, x2.write_mmtp.auto, x1.write_outer.auto)
+    omega (arith, sizes c.args.p.unit.kind)
 
 pub returns : goal.returns
 unfolding head_bytes packet_of mmtp_of data_unit
 returns c =
-    let w5 = c in
-    let w4 = w5 in
-    let w3 = w4 in
-    let w2 = w3 in
-    let w1 = w2 in
-    let d = w1 in
-    let g = d in
-    let a = g.args in
+    let a = c.args in
     let p = a.p in
     let u = p.unit in
     let s = a.bytes.now in
-    let z = sized d in
-    let n : d.field_bytes.result + length s ≡ length (data_unit p s) = omega (arith, z.0, length-unit p s) in
-    let l : 15 + d.payload_head_bytes-head.result + (d.field_bytes.result + length s) ≡ 3 + length (mmtp_of p s) =
-    omega (arith, z.0, z.1, length_mmtp p s) in
-    let t1 = rw l at w1.write_outer.ensures in
-    let t3 = rw n at w3.write_payload_head.ensures in
+    let z = sizes u.kind in
+    let n : c.field_bytes.result + length s ≡ length (data_unit p s) = omega (arith, length-unit p s) in
+    let l : 15 + c.payload_head_bytes-head.result + (c.field_bytes.result + length s) ≡ 3 + length (mmtp_of p s) =
+    omega (arith, length_mmtp p s) in
+    let t1 = rw l at c.write_outer.ensures in
+    let t3 = rw n at c.write_payload_head.ensures in
     let o = outer_head (3 + length (mmtp_of p s)) a.cid a.sn in
     let m = mmtp_head u.kind u.packet_id u.psn.0 in
     let y = payload_head p (length (data_unit p s)) in
     let x = fields_written u.kind u.fields in
     let e1 = wrote a.output.now a.at _ o 7 t1 (length_outer _ _ _) in
-    let e2 = behind e1 _ m 12 (a.at + 7) w2.write_mmtp.ensures (length_mmtp_head _ _ _) refl (omega (arith, z)) in
+    let e2 = behind e1 _ m 12 (a.at + 7) c.write_mmtp.ensures (length_mmtp_head _ _ _) refl (omega (arith, z)) in
     let e3 = behind e2 _ y _ (a.at + 19) t3 (length_payload_head _ _) refl (omega (arith, z)) in
-    let e4 = behind e3 _ x _ _ w4.write_fields.ensures (length_fields _ _) (omega (arith, z)) (omega (arith, z)) in
-    let k = w5.head_bytes.ensures in
-    let e5 = behind e4 _ s _ _ w5.copy_at.ensures refl (omega (arith, z, k)) (omega (arith, z)) in
+    let e4 = behind e3 _ x _ _ c.write_fields.ensures (length_fields _ _) (omega (arith, z)) (omega (arith, z)) in
+    let k = c.head_bytes.ensures in
+    let e5 = behind e4 _ s _ _ c.copy_at.ensures refl (omega (arith, z, k)) (omega (arith, z)) in
     let q : (((o ++ m) ++ y) ++ x) ++ s ≡ packet_of a.cid a.sn p s = simp append_assoc in
     e5.is ∙ ap (λ (l : List ℕ). pasted a.output.now a.at l (head_bytes u.kind + length s)) q

@@ -1,5 +1,5 @@
 -- Why write_signalling meets its contract: its bytes, one behind the other.
-use Rattle.std.proofs.Common.{◌+◌, ◌*◌, ◌∷◌, refl, arith}
+use Rattle.std.proofs.Common.{◌+◌, ◌*◌, [], ◌∷◌, refl, arith}
 use Rattle.packer.specs.Packet.{indicator_bits, signalling_head}
 use Rattle.packer.proofs.Written.{wrote, behind}
 use Rattle.packer.proofs.packet.write_signalling.Goals as goal

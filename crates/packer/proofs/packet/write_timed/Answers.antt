@@ -1,5 +1,5 @@
 -- Why write_timed meets its contract: the fields, one behind the other.
-use Rattle.std.proofs.Common.{◌+◌, ◌∷◌, refl, arith}
+use Rattle.std.proofs.Common.{◌+◌, [], ◌∷◌, refl, arith}
 use Rattle.wire.specs.Field.{bytes_of}
 use Rattle.packer.specs.Packet.{timed_fields}
 use Rattle.packer.proofs.Written.{wrote, behind}

@@ -1,24 +1,20 @@
-use Rattle.std.proofs.Common.{◌≡◌, ℕ, suc, ◌+◌, ◌-◌, add_comm, arith, ltb-false, ltb-true}
-use Rattle.packer.specs.Pieces.{max_pieces}
+use Rattle.std.proofs.Common.{◌≡◌, suc, ◌+◌, ◌-◌, add_comm, arith}
 use Rattle.packer.proofs.Pieces.{count_stop, count-last, count_next}
+use Rattle.packer.proofs.piece.count.Invariants.{stop}
 use Rattle.packer.proofs.piece.count.Goals as goal
-
--- where the count stops: one more than the most pieces of a unit
-abbrev stop : ℕ
-stop = max_pieces + 1
 
 pub loop-n-init : goal.loop-n-init
 loop-n-init c = (omega arith, add_comm 1 _)
 
 pub overflow_sub-left : goal.overflow_sub-left
-overflow_sub-left c = omega (arith, ltb-true c.args.m c.loop-n.left c.if-m-left.true)
+overflow_sub-left c = omega arith
 
 pub loop-n-preserved : goal.loop-n-preserved
 loop-n-preserved c =
     let l = c.loop-n in
     let a = c.args in
     let t = c.loop-n-test.true in
-    let h = ltb-true a.m l.left c.if-m-left.true in
+    let h = c.if-m-left.true in
     let e : stop - l.n ≡ suc (stop - (l.n + 1)) = omega (arith, t) in
     let s = count_next (stop - (l.n + 1)) a.m l.left h in
     let i = rw (e, s) at l.invariant.1 in
@@ -27,7 +23,7 @@ loop-n-preserved c =
 pub returns-else-m-left : goal.returns-else-m-left
 returns-else-m-left c =
     let l = c.loop-n in
-    let o = count-last (stop - l.n) c.args.m l.left (ltb-false _ _ c.if-m-left.false) in
+    let o = count-last (stop - l.n) c.args.m l.left c.if-m-left.false in
     omega (arith, l.invariant.1, o)
 
 pub returns-after-loop-n : goal.returns-after-loop-n

@@ -4,4 +4,4 @@ use Rattle.packer.proofs.piece.number.Goals as goal
 
 pub returns : goal.returns
 unfolding with_psn piece_at
-returns c = rw (c.wrapping_add_u32.ensures, c.indicator_at.ensures, c.counter_at.ensures)
+returns c = rw (c.wrapping_add_u32.ensures.value, c.indicator_at.ensures, c.counter_at.ensures)
