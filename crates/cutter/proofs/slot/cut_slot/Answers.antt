@@ -19,6 +19,7 @@ use Rattle.cutter.proofs.slot.cut_slot.Goals as goal
 module _ (run : List ℕ) (from l : ℕ) (h : from + l ≤ length run) where
   same : from + l - from ≡ l
   same = omega arith
+
   part_length : length (take (from + l - from) (drop from run)) ≡ l
   part_length = rw (same, length-take-le l (drop from run) (rw length-drop (omega arith)))
 
