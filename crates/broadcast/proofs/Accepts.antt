@@ -11,8 +11,9 @@ use Rattle.tmcc.specs.Block.{own_stream}
 use Rattle.tmcc.proofs.Laws.{accepted-layout, layout-sizes, layout-most}
 use Rattle.tlv.specs.Run.{searching}
 use Rattle.reassembly.specs.Run.{fresh}
-use Rattle.state.specs.Start.{start_of, started as fresh_start, accepts as start-accepts}
-use Rattle.frames.specs.Slot.{length-right}
+use Rattle.state.specs.Start.{start_of}
+use Rattle.state.proofs.StartLaws.{started as fresh_start, accepts as start-accepts}
+use Rattle.frames.proofs.SlotLaws.{length-right}
 use Rattle.broadcast.specs.Frames.{Frame, layout_in}
 use Rattle.broadcast.specs.Demand3.{started}
 use Rattle.broadcast.specs.Accepts.{GoodFrame, AllGood, Accepts}

@@ -29,7 +29,8 @@ use Rattle.reassembly.specs.Sent.{sent}
 use Rattle.reassembly.specs.Claims.{received, unharmed}
 use Rattle.reassembly.proofs.Sent.{run-sent}
 use Rattle.reassembly.proofs.Loss.{sent_loss}
-use Rattle.wire.specs.Lists.{all, sift-map}
+use Rattle.wire.specs.Lists.{all}
+use Rattle.wire.proofs.ListsLaws.{sift-map}
 use Rattle.broadcast.specs.Account.{events, account}
 use Rattle.broadcast.specs.Carried.{inputs, in_row, row_inputs, carried_units, intact_units, Few, contents}
 use Rattle.broadcast.specs.Claims.{AccountUnits, AccountLoss, LostMany}

@@ -13,7 +13,7 @@ use Rattle.wire.specs.Memory.{part_of}
 use Rattle.tlv.specs.declared.note.SlotNote.TheVariants.{TooLong}
 use Rattle.tlv.specs.Notes.{number_of}
 use Rattle.tlv.specs.Packet.{total, complete, too_long, cut, packet_at, in_front}
-use Rattle.tlv.specs.Cuts.{complete-fits, cut-end, cut-more}
+use Rattle.tlv.proofs.CutsLaws.{complete-fits, cut-end, cut-more}
 use Rattle.delivery.specs.declared.cursor.Advanced.{Advanced}
 use Rattle.queue.specs.declared.event.Event.TheVariants.{Note}
 use Rattle.delivery.specs.declared.cursor.Found.TheVariants.{Event, Packet, Tail, Done}

@@ -31,7 +31,7 @@ use Rattle.broadcast.specs.Frames.{
 }
 use Rattle.broadcast.specs.Demand3.{kept}
 use Rattle.broadcast.proofs.AccountLoss.{lost_many}
-use Rattle.frames.specs.Slot.{right-length}
+use Rattle.frames.proofs.SlotLaws.{right-length}
 use Rattle.broadcast.proofs.SlotCalls.{SlotsFit}
 use Rattle.broadcast.proofs.Reading.{FramesFit}
 

@@ -8,7 +8,8 @@ use lib.ListN.{length, take, drop, length-append, length-take, length-drop}
 use Rattle.tlv.specs.declared.held.Continuation.{Continuation}
 use Rattle.tlv.specs.declared.held.Continuation.TheVariants.{Dropped, Ends, GoesOn}
 use Rattle.tlv.specs.Packet.{cut, too_long}
-use Rattle.tlv.specs.Cuts.{row, AllSized, cut-whole, cut-sized}
+use Rattle.tlv.specs.Cuts.{AllSized}
+use Rattle.tlv.proofs.CutsLaws.{row, cut-whole, cut-sized}
 use Rattle.tlv.specs.Slot.{sound}
 use Rattle.tlv.specs.Held.{continuation_of}
 use Rattle.tlv.specs.Run.{

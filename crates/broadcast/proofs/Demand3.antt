@@ -22,8 +22,10 @@ use Rattle.state.specs.State.{State, accepted as acceptedAs, refused as refusedW
 use Rattle.tmcc.specs.Block.{decode_of}
 use Rattle.intake.specs.Slot.{packet_memory}
 use Rattle.frames.specs.Frame.{frame_busy, frame_of}
-use Rattle.frames.specs.Slot.{slot_refusal, wrong_length, slot_of, slot_taken, due_length, due_own, due_pointers, ready}
-use Rattle.state.specs.Start.{start_refusal, start_of, fresh_state, blank_config, starts, start_from}
+use Rattle.frames.specs.Slot.{slot_refusal, wrong_length, slot_of, slot_taken, due_length, due_own, due_pointers}
+use Rattle.frames.proofs.SlotLaws.{ready}
+use Rattle.state.specs.Start.{start_refusal, start_of, fresh_state, blank_config, start_from}
+use Rattle.state.proofs.StartLaws.{starts}
 use Rattle.broadcast.specs.Account.{account}
 use Rattle.broadcast.specs.Carried.{inputs, row_inputs, carried_units, intact_units, contents, Few}
 use Rattle.broadcast.specs.Drains.{strip, LaneIs}

@@ -13,21 +13,13 @@ use Rattle.mmtp.specs.declared.flow.Flow.TheVariants.{Silent as OtherFlow, Noted
 use Rattle.mmtp.specs.declared.packet.Reading.{Reading}
 use Rattle.mmtp.specs.declared.packet.Reading.TheVariants.{Silent as Unwatched, Noted as NotedPacket, Good as GoodPacket}
 use Rattle.mmtp.specs.declared.payload.Payload.{Payload}
-use Rattle.mmtp.specs.Flow.{flow_of, mmtp_place}
+use Rattle.mmtp.specs.Flow.{flow_of}
+use Rattle.mmtp.proofs.FlowLaws.{mmtp_place}
 use Rattle.mmtp.specs.Packet.{reading_of}
-use Rattle.mmtp.specs.Payload.{pieces_of, pieces_single, pieces_aggregated}
-use Rattle.mmtp.specs.Unit.{
-  Aggregate,
-  all_read,
-  unit_fits,
-  unit_then,
-  unit_length,
-  after_unit,
-  aggregate_by,
-  aggregate,
-  length_bytes,
-  length-bytes_pos,
-}
+use Rattle.mmtp.specs.Payload.{pieces_of}
+use Rattle.mmtp.proofs.PayloadLaws.{pieces_single, pieces_aggregated}
+use Rattle.mmtp.specs.Unit.{Aggregate, all_read, unit_fits, unit_then, unit_length, after_unit, aggregate_by, aggregate, length_bytes}
+use Rattle.mmtp.proofs.UnitLaws.{length-bytes_pos}
 use Rattle.reassembly.specs.declared.config.Rules.{Rules}
 use Rattle.reassembly.specs.declared.config.Config.{Config}
 use Rattle.reassembly.specs.declared.join.Action.{Action}

@@ -7,7 +7,7 @@ use native.Mathlib.Omega.{arith}
 use lib.ListN.{length}
 use lib.Dec.{eqb}
 use borrow.Author.Tests.{eqb-true}
-use Rattle.wire.specs.Choice.{either, by_test}
+use Rattle.wire.proofs.Choice.{either, by_test}
 use Rattle.tmcc.specs.declared.layout.Pointers.{Pointers}
 use Rattle.tmcc.specs.Block.{decode_of}
 use Rattle.tlv.specs.Packet.{marked}
@@ -27,10 +27,12 @@ use Rattle.delivery.specs.Cursor.{advanced_of, turn_by, turn_of, left}
 use Rattle.queue.specs.Queue.{event_taken}
 use Rattle.state.specs.State.{State, Called, with_slot, with_queue}
 use Rattle.state.specs.Start.{start_refusal, fresh_state, start_of, start_from}
-use Rattle.frames.specs.Frame.{frame_busy, frame_of, loss_of, lost_frame_of, free}
-use Rattle.frames.specs.Slot.{SlotOut, slot_refusal, counted, due_length, due_pointers, due_own, wrong_length, slot_taken, slot_of, loss_taken, lost_slot_of, ready, right-length, short_by}
+use Rattle.frames.specs.Frame.{frame_busy, frame_of, loss_of, lost_frame_of}
+use Rattle.frames.proofs.FrameLaws.{free}
+use Rattle.frames.specs.Slot.{SlotOut, slot_refusal, counted, due_length, due_pointers, due_own, wrong_length, slot_taken, slot_of, loss_taken, lost_slot_of, short_by}
+use Rattle.frames.proofs.SlotLaws.{ready, right-length}
 use Rattle.receiver.specs.Next.{NextOut, packet_of, past, onwards, read_on, read_all, next_of}
-use Rattle.receiver.specs.ReadOn.{packet-kept}
+use Rattle.receiver.proofs.ReadOnLaws.{packet-kept}
 use Rattle.broadcast.specs.Drains.{HeldIs}
 use Rattle.broadcast.specs.Pending.{cursor_leaves}
 use Rattle.broadcast.specs.SlotClaims.{Short, CursorGood, Same, slot_from, Advances}

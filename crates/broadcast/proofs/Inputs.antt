@@ -16,7 +16,8 @@ use Rattle.reassembly.specs.declared.config.Config.{Config}
 use Rattle.reassembly.specs.Run.{Input, Event, note, unit, Lane, step, with_lane, run, units, Clean}
 use Rattle.reassembly.specs.Claims.{received}
 use Rattle.reassembly.proofs.Events.{clean-left, clean-right, units-append}
-use Rattle.wire.specs.Lists.{put, sift, sift-append}
+use Rattle.wire.specs.Lists.{put, sift}
+use Rattle.wire.proofs.ListsLaws.{sift-append}
 use Rattle.broadcast.specs.Account.{Read, silent, noted, input, read_of, after_read, events}
 use Rattle.broadcast.specs.Carried.{as_input, inputs}
 use Rattle.broadcast.proofs.Labels.{relabel}

@@ -16,19 +16,8 @@ use Rattle.intake.specs.Slot.{packet_memory}
 use Rattle.state.specs.State.{Frame, State}
 use Rattle.queue.specs.Waiting.{Queue}
 use Rattle.frames.specs.Frame.{frame_busy, loss_of, lost_frame_of}
-use Rattle.frames.specs.Slot.{
-  counted,
-  own_of,
-  slot_refusal,
-  short_by,
-  wrong_length,
-  due_pointers,
-  right-length,
-  slot-own,
-  slot-not-own,
-  lost-own,
-  lost-not-own,
-}
+use Rattle.frames.specs.Slot.{counted, own_of, slot_refusal, short_by, wrong_length, due_pointers}
+use Rattle.frames.proofs.SlotLaws.{right-length, slot-own, slot-not-own, lost-own, lost-not-own}
 use Rattle.broadcast.specs.Account.{events, lanes_after}
 use Rattle.broadcast.specs.Drains.{Shown, strip, Drains, Tracks}
 use Rattle.broadcast.specs.Pending.{cursor_pending, cursor_leaves, queue_pending}

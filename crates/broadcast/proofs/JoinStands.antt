@@ -7,7 +7,8 @@ use native.Mathlib.Nat.{zero-add}
 use native.Mathlib.Decide.{dec_lt}
 use native.Mathlib.Omega.{arith}
 use lib.ListN.{length, take, drop, length-drop}
-use Rattle.wire.specs.Memory.{part_of, pasted, part-inside, length-pasted}
+use Rattle.wire.specs.Memory.{part_of, pasted}
+use Rattle.wire.proofs.MemoryLaws.{part-inside, length-pasted}
 use Rattle.mmtp.specs.declared.payload.Indicator.{Indicator}
 use Rattle.mmtp.specs.declared.payload.Indicator.TheVariants.{Whole, First, Middle, Last}
 use Rattle.mmtp.specs.Payload.{units_fit}

@@ -29,3 +29,4 @@ pub mod HeldHeaders
 pub mod Nexts
 pub mod Accepts
 pub mod Broadcast
+pub mod ExampleLaws

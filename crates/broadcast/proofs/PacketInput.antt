@@ -9,8 +9,10 @@ use lib.Seq.{length-take-le}
 use Rattle.mmtp.specs.declared.packet.Packet.{Packet}
 use Rattle.mmtp.specs.declared.payload.Payload.{Payload}
 use Rattle.mmtp.specs.declared.unit.DataUnit.{DataUnit}
-use Rattle.mmtp.specs.Payload.{units_fit, pieces_of, units_single, units_aggregated, pieces_single, pieces_aggregated}
-use Rattle.mmtp.specs.Unit.{Piece, piece_at, single_unit, single_next, aggregate, aggregate-fits}
+use Rattle.mmtp.specs.Payload.{units_fit, pieces_of}
+use Rattle.mmtp.proofs.PayloadLaws.{units_single, units_aggregated, pieces_single, pieces_aggregated}
+use Rattle.mmtp.specs.Unit.{Piece, piece_at, single_unit, aggregate}
+use Rattle.mmtp.proofs.UnitLaws.{single_next, aggregate-fits}
 use Rattle.reassembly.specs.declared.join.Piece.{Piece as JoinPiece}
 use Rattle.reassembly.specs.Unit.{carried}
 use Rattle.reassembly.specs.Run.{Input, labelled}

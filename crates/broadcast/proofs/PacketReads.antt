@@ -13,12 +13,16 @@ use Rattle.mmtp.specs.declared.flow.Flow.{Flow}
 use Rattle.mmtp.specs.declared.flow.Flow.TheVariants.{Silent as OtherFlow, Noted as NotedFlow, Mmtp}
 use Rattle.mmtp.specs.declared.packet.Reading.{Reading}
 use Rattle.mmtp.specs.declared.packet.Reading.TheVariants.{Silent as Unwatched, Noted as NotedPacket, Good as GoodPacket}
-use Rattle.watch.specs.Given.{lookup_of, lookup_at}
+use Rattle.watch.specs.Given.{lookup_of}
+use Rattle.watch.proofs.GivenLaws.{lookup_at}
 use Rattle.mmtp.specs.Notes as packet
-use Rattle.mmtp.specs.Notes.{not_none}
-use Rattle.mmtp.specs.Flow.{flow_of, mmtp_place}
-use Rattle.mmtp.specs.Packet.{reading_of, packet-is, packet-place}
-use Rattle.mmtp.specs.Payload.{units_fit, pieces_of, payload_read}
+use Rattle.mmtp.proofs.NotesLaws.{not_none}
+use Rattle.mmtp.specs.Flow.{flow_of}
+use Rattle.mmtp.proofs.FlowLaws.{mmtp_place}
+use Rattle.mmtp.specs.Packet.{reading_of}
+use Rattle.mmtp.proofs.PacketLaws.{packet-is, packet-place}
+use Rattle.mmtp.specs.Payload.{units_fit, pieces_of}
+use Rattle.mmtp.proofs.PayloadLaws.{payload_read}
 use Rattle.reassembly.specs.declared.config.Rules.{Rules}
 use Rattle.reassembly.specs.declared.channel.Channel.{Channel}
 use Rattle.reassembly.specs.declared.config.Config.{Config}
@@ -34,9 +38,10 @@ use Rattle.delivery.specs.declared.packet.Arrived.TheVariants.{Good}
 use Rattle.queue.specs.Waiting.{Queue}
 use Rattle.words.specs.Config.{KeptConfig}
 use Rattle.state.specs.State.{State, with_queue, with_channels}
-use Rattle.state.specs.Watching.{watch-given}
+use Rattle.state.proofs.WatchingLaws.{watch-given}
 use Rattle.queue.specs.Queue.{empty}
-use Rattle.delivery.specs.Packet.{bytes_at, unit_in, base_of, step_of, queue_of, joined_of, comes_to, arrived_at, arrived-same, read_by, flow_by}
+use Rattle.delivery.specs.Packet.{bytes_at, unit_in, base_of, step_of, queue_of, joined_of, comes_to, arrived_at, read_by, flow_by}
+use Rattle.delivery.proofs.PacketLaws.{arrived-same}
 use Rattle.receiver.specs.Next.{arrived_by, packet_of}
 use Rattle.broadcast.specs.Account.{
   After,

@@ -9,8 +9,9 @@ use borrow.Author.Tests.{leb-true}
 use lib.Dec.{leb}
 use lib.ListN.{length, take, drop, length-drop}
 use lib.Seq.{take-take, drop-drop, drop-append-le, take-append-le, length-take-le, take-paste, drop-paste}
-use Rattle.wire.specs.Memory.{part_of, pasted, part-inside}
-use Rattle.mmtp.specs.Take.{drop-take}
+use Rattle.wire.specs.Memory.{part_of, pasted}
+use Rattle.wire.proofs.MemoryLaws.{part-inside}
+use Rattle.mmtp.proofs.Take.{drop-take}
 
 -- a part that lies in the memory
 module _ (s : List ℕ) (i n : ℕ) (h : i + n ≤ length s) where

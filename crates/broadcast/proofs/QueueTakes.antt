@@ -10,7 +10,8 @@ use lib.ListN.{length, drop, length-drop}
 use Rattle.wire.specs.Memory.{part_of}
 use Rattle.mmtp.specs.declared.unit.DataUnit.{DataUnit}
 use Rattle.mmtp.specs.declared.unit.Step.TheVariants.{End}
-use Rattle.mmtp.specs.Unit.{unit_at, data_unit, aggregate-none, aggregate-next, piece_at}
+use Rattle.mmtp.specs.Unit.{unit_at, data_unit, piece_at}
+use Rattle.mmtp.proofs.UnitLaws.{aggregate-none, aggregate-next}
 use Rattle.queue.specs.Waiting.{Aggregate, Give, Nothing as NoUnit, One, Many, Queue}
 use Rattle.queue.specs.Queue.{event_taken, give_by}
 use Rattle.receiver.specs.Show.{show_of}

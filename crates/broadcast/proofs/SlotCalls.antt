@@ -9,7 +9,8 @@ use Rattle.tmcc.specs.declared.layout.Layout.{Layout}
 use Rattle.tlv.specs.Run.{Stepped, State as Slot-state, Arrival, given, lost, step, run, state_after, Event as Slot-event}
 use Rattle.reassembly.specs.declared.config.Config.{Config}
 use Rattle.reassembly.specs.Run.{Lane}
-use Rattle.frames.specs.Slot.{wrong_length, right-length}
+use Rattle.frames.specs.Slot.{wrong_length}
+use Rattle.frames.proofs.SlotLaws.{right-length}
 use Rattle.broadcast.specs.Account.{events, lanes_after, after_event}
 use Rattle.broadcast.specs.Drains.{Shown, strip}
 use Rattle.broadcast.specs.Calls.{

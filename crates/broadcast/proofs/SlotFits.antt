@@ -12,7 +12,8 @@ use Rattle.tlv.specs.declared.held.Continuation.TheVariants.{Dropped, Ends, Goes
 use Rattle.tlv.specs.declared.note.SlotNote.TheVariants.{TooLong}
 use Rattle.tlv.specs.Packet.{max_packet}
 use Rattle.tlv.specs.Slot.{none}
-use Rattle.tlv.specs.Held.{held_total, held_end, continuation_of, held_too_long}
+use Rattle.tlv.specs.Held.{held_total, held_end, continuation_of}
+use Rattle.tlv.proofs.HeldLaws.{held_too_long}
 use Rattle.tlv.proofs.Answers.{end_of, Says}
 use Rattle.intake.specs.Slot.{slot_area}
 

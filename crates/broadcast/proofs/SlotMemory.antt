@@ -5,9 +5,10 @@ use mathlib.Core.List.{List, ◌++◌}
 use native.Mathlib.Omega.{arith}
 use lib.ListN.{length, take, drop, length-drop}
 use lib.Seq.{length-take-le, take-length, take-append-le, take-take, drop-drop, take-add, drop_at, take-paste}
-use Rattle.wire.specs.Memory.{part_of, pasted, part-inside, length-pasted}
+use Rattle.wire.specs.Memory.{part_of, pasted}
+use Rattle.wire.proofs.MemoryLaws.{part-inside, length-pasted}
 use Rattle.tlv.specs.Packet.{cut}
-use Rattle.tlv.specs.Cuts.{cut-tail, cut-tail-length}
+use Rattle.tlv.proofs.CutsLaws.{cut-tail, cut-tail-length}
 use Rattle.intake.specs.declared.held.Held.{Held}
 use Rattle.intake.specs.Slot.{slot_area, copied, moved_mem, continued_mem, held_bytes, held_len}
 

@@ -14,9 +14,10 @@ use Rattle.tmcc.specs.declared.layout.Pointers.{Pointers}
 use Rattle.tlv.specs.declared.held.Continuation.{Continuation}
 use Rattle.tlv.specs.declared.held.Continuation.TheVariants.{Dropped, Ends, GoesOn}
 use Rattle.tlv.specs.declared.note.SlotNote.TheVariants.{Lost, Unsound}
-use Rattle.tlv.specs.Notes.{number_of, not_none}
+use Rattle.tlv.specs.Notes.{number_of}
+use Rattle.tlv.proofs.NotesLaws.{not_none}
 use Rattle.tlv.specs.Packet.{cut}
-use Rattle.tlv.specs.Cuts.{cut-tail-length}
+use Rattle.tlv.proofs.CutsLaws.{cut-tail-length}
 use Rattle.tlv.specs.Slot.{none, sound}
 use Rattle.tlv.specs.Held.{continuation_of}
 use Rattle.tlv.specs.Run.{

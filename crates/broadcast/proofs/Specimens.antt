@@ -1,9 +1,9 @@
 -- All starred specimens hold.
 use Rattle.tmcc.proofs.Specimens.{specimens as tmcc}
-use Rattle.tlv.specs.Specimens.{specimens as tlv}
-use Rattle.mmtp.specs.Specimens.{header-specimens}
-use Rattle.mmtp.specs.PayloadSpecimens.{payload_specimens}
-use Rattle.reassembly.specs.Specimens.{specimens as reassembly}
+use Rattle.tlv.proofs.SpecimensLaws.{specimens as tlv}
+use Rattle.mmtp.proofs.SpecimensLaws.{header-specimens}
+use Rattle.mmtp.proofs.PayloadSpecimensLaws.{payload_specimens}
+use Rattle.reassembly.proofs.SpecimensLaws.{specimens as reassembly}
 use Rattle.broadcast.specs.Specimens.{Specimens}
 
 pub specimens : Specimens

@@ -10,14 +10,17 @@ use lib.Dec.{eqb, ltb}
 use lib.ListN.{length}
 use Rattle.state.specs.State.{State}
 use Rattle.frames.specs.Slot.{short_by}
-use Rattle.receiver.specs.Next.{next_of, next-short}
+use Rattle.receiver.specs.Next.{next_of}
+use Rattle.receiver.proofs.NextLaws.{next-short}
 use Rattle.receiver.specs.Show.{show_of}
 use Rattle.receiver.proofs.Demand1.{demand_1}
 use Rattle.calls.specs.Bounds.{are_within}
-use Rattle.calls.specs.Settings.{settings_most, start-by, start-not, config_in}
+use Rattle.calls.specs.Settings.{settings_most, config_in}
+use Rattle.calls.proofs.SettingsLaws.{start-by, start-not}
 use Rattle.calls.specs.Record.{record_words, read_place}
-use Rattle.calls.specs.Events.{refusal_of, refused-event, next-few, next-done, next-refused, events-few, events-short, events-done}
-use Rattle.calls.specs.Show.{show-few, show-long, copied-short, copied-whole}
+use Rattle.calls.specs.Events.{refusal_of}
+use Rattle.calls.proofs.EventsLaws.{refused-event, next-few, next-done, next-refused, events-few, events-short, events-done}
+use Rattle.calls.proofs.ShowLaws.{show-few, show-long, copied-short, copied-whole}
 use Rattle.calls.specs.Claims.{StartAnswer, NextAnswer, EventsAnswer, ShowAnswer, CallsAnswer}
 
 start-answer : (st : State) (s : List ℕ) → StartAnswer st s

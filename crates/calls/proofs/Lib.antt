@@ -2,3 +2,9 @@
 pub mod Answers
 pub mod Often
 pub mod Taken
+pub mod BoundsLaws
+pub mod EventsLaws
+pub mod Examples
+pub mod RecordLaws
+pub mod SettingsLaws
+pub mod ShowLaws

@@ -8,13 +8,14 @@ use native.Mathlib.Omega.{arith}
 use borrow.Author.Tests.{le-leb}
 use lib.ListN.{length, get_or, replicate, get_or-append}
 use lib.Seq.{get_or-append-add}
-use Rattle.wire.specs.Tab.{tab-same, tab-list}
+use Rattle.wire.proofs.TabLaws.{tab-same, tab-list}
 use Rattle.reassembly.specs.declared.config.Config.{Config}
 use Rattle.words.specs.Channel.{unit_words, field_words}
 use Rattle.state.specs.Start.{start_from}
 use Rattle.calls.specs.Bounds.{are_within}
 use Rattle.calls.specs.Record.{unit_record}
-use Rattle.calls.specs.Settings.{most16, most64, settings_most, SizedConfig, ids_in, config_in, start-by}
+use Rattle.calls.specs.Settings.{most16, most64, settings_most, SizedConfig, ids_in, config_in}
+use Rattle.calls.proofs.SettingsLaws.{start-by}
 use Rattle.calls.specs.Claims.{settings_of, SettingsClaim, RecordClaim}
 
 -- n words at most m each, and words behind them

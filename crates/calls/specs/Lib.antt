@@ -5,5 +5,4 @@ pub mod Record
 pub mod Events
 pub mod Show
 pub mod Words
-pub mod Examples
 pub mod Claims

@@ -1,13 +1,10 @@
 -- Start's settings in words: stream id, CID, n, R, sixteen packet_ids, and twelve words for later settings, which are 0.
-use Rattle.std.specs.Prelude.{ℕ, ◌+◌, ◌%◌, ◌<◌, ◌≤◌, ◌≡◌, true, false, cond, List, ◌∷◌, ◌++◌, length, get_or, replicate}
+use Rattle.std.specs.Prelude.{ℕ, ◌+◌, ◌%◌, ◌<◌, ◌≡◌, cond, List, ◌∷◌, ◌++◌, length, get_or, replicate}
 use Rattle.wire.specs.Tab.{tab}
 use Rattle.reassembly.specs.declared.config.Config.{Config}
 use Rattle.state.specs.State.{State, Called, refused}
 use Rattle.state.specs.Start.{start_from}
-use Rattle.calls.specs.Bounds.{are_within, within-enough}
-
-abbrev pub settings_words : ℕ
-settings_words = 32
+use Rattle.calls.specs.Bounds.{are_within}
 
 -- the most of a field of 8, 16, 32 or 64 bits
 abbrev pub most8 : ℕ
@@ -49,17 +46,3 @@ pub record SizedConfig (c : Config) : Type 0 where
 -- 91 for settings of fewer than 32 words or with a word that its setting cannot have (docs/DECISIONS.md), before start's own refusals
 unfoldable pub start_by : State → List ℕ → Called
 start_by st s = cond (are_within s settings_most) (start_from st (config_in s)) (refused 91 st)
-
--- Laws.
-
-pub start-by : (st : State) (s : List ℕ) → are_within s settings_most ≡ true → start_by st s ≡ start_from st (config_in s)
-unfolding start_by
-start-by st s e = rw e
-
-pub start-not : (st : State) (s : List ℕ) → are_within s settings_most ≡ false → start_by st s ≡ refused 91 st
-unfolding start_by
-start-not st s e = rw e
-
-pub settings-length : (s : List ℕ) → are_within s settings_most ≡ true → 32 ≤ length s
-unfolding settings_most
-settings-length s e = within-enough s _ e

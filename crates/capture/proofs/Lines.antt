@@ -2,7 +2,8 @@
 use Rattle.std.proofs.Common.{◌≤◌, length, arith}
 use Rattle.queue.specs.declared.event.Event.{Event}
 use Rattle.queue.specs.declared.event.Event.TheVariants.{Nothing, Note, Unit, Refused}
-use Rattle.lines.specs.Line.{longest_line, unit_longest, note-89, refused-29}
+use Rattle.lines.specs.Line.{longest_line}
+use Rattle.lines.proofs.LineLaws.{unit_longest, note-89, refused-29}
 use Rattle.capture.specs.declared.session.Tally.{Tally}
 use Rattle.capture.specs.Capture.{event_line}
 

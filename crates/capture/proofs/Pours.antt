@@ -3,16 +3,17 @@ use Rattle.std.proofs.Common.{◌≡◌, ℕ, zero, suc, ◌+◌, ◌≤◌, Boo
 use mathlib.Core.Bool.{and-false, and-eq-true_iff}
 use Rattle.queue.specs.declared.event.Event.{Event}
 use Rattle.queue.specs.declared.event.Event.TheVariants.{Nothing, Note, Unit, Refused}
-use Rattle.wire.specs.Choice.{by_test}
+use Rattle.wire.proofs.Choice.{by_test}
 use Rattle.receiver.specs.Next.{next_of}
 use Rattle.capture.specs.Session.{Session, is_reading, busy, with_state, with_tally}
-use Rattle.lines.specs.Text.{wrote, wrote_none, wrote-end, length-wrote, wrote-append}
+use Rattle.lines.specs.Text.{wrote}
+use Rattle.lines.proofs.TextLaws.{wrote_none, wrote-end, length-wrote, wrote-append}
 use Rattle.lines.specs.Line.{longest_line, is_line}
 use Rattle.capture.specs.Waits.{waits}
 use Rattle.capture.specs.Capture.{Drained, behind, event_by, event_line, tallied, closed, drained_of}
 use Rattle.capture.specs.Steps.{Poured, poured_at, pour_by, roomy, poured_by, poured_of}
 use Rattle.capture.specs.Claims.{Pours, PourClaim}
-use Rattle.capture.specs.Drains.{drain-step, drain-idle}
+use Rattle.capture.proofs.Drains.{drain-step, drain-idle}
 use Rattle.capture.proofs.Lines.{line_longest}
 
 -- nothing was written

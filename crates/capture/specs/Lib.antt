@@ -2,12 +2,8 @@
 pub mod Command
 pub mod Session
 pub mod Waits
-pub mod Paid
-pub mod Bounded
 pub mod Capture
 pub mod Words
-pub mod Drains
 pub mod Steps
-pub mod Examples
 pub mod Worked
 pub mod Claims

@@ -1,14 +1,12 @@
 -- What the functions of a capture answer and leave, the receiver's state being in words that the caller lends.
-use Rattle.std.specs.Prelude.{◌≡◌, ℕ, ◌<◌, ◌≤◌, Bool, false, List, length, refl}
-use Rattle.std.proofs.Common.{ap}
+use Rattle.std.specs.Prelude.{◌≡◌, ℕ, ◌<◌, ◌≤◌, List, length}
 use Rattle.queue.specs.declared.event.Event.{Event}
 use Rattle.queue.specs.declared.event.Event.TheVariants.{Nothing, Note, Unit, Refused}
-use Rattle.state.specs.State.{State, Called, with_owed}
+use Rattle.state.specs.State.{Called}
 use Rattle.state.specs.Words.{state_words, state_in, Clean, Exact}
 use Rattle.capture.specs.declared.session.Session.{Session as Values}
 use Rattle.capture.specs.declared.session.Progress.{Progress as ValuesProgress}
 use Rattle.capture.specs.Session.{Progress, session_in, progress_in, ended, fresh_values, fresh_session}
-use Rattle.capture.specs.Capture.{closed}
 
 -- the session after an event that is no line, beside the state memory
 unfoldable pub closed_values : Values → Event → Values
@@ -41,17 +39,3 @@ pub record Begins (before : List ℕ) (r : Values) (after : List ℕ) : Type 0 w
   pub short : length before < state_words → after ≡ before
   pub long : state_words ≤ length before → (session_in r after ≡ fresh_session) × Clean after
   pub exact : Exact before after
-
--- Laws.
-
-owed_no_more : (st : State) → st.owed ≡ false → st ≡ with_owed st false
-owed_no_more st h = ap (λ (b : Bool). with_owed st b) h
-
--- with the state memory it is the session after the event: where nothing waits, next is owed no more already
-pub closed_in : (s : Values) (t : List ℕ) (e : Event) → (e ≡ Nothing → (state_in t).owed ≡ false)
-    → session_in (closed_values s e) t ≡ closed (session_in s t) e
-unfolding closed_values closed
-closed_in s t Nothing h = ap (λ (st : State). record { phase = s.phase; state = st; tally = s.tally }) (owed_no_more (state_in t) (h refl))
-closed_in s t (Note n id) h = refl
-closed_in s t (Unit g) h = refl
-closed_in s t (Refused n) h = refl

@@ -22,9 +22,10 @@ use Rattle.capture.specs.declared.session.Phase.{Phase}
 use Rattle.capture.specs.declared.session.Phase.TheVariants.{Before, Reading, Ended}
 use Rattle.capture.specs.Session.{Session, is_ended, busy, in_phase, with_state, fresh_session}
 use Rattle.capture.specs.declared.session.Tally.{Tally}
-use Rattle.capture.specs.Command.{letter_of, size_of, whole, size-by}
+use Rattle.capture.specs.Command.{letter_of, size_of, whole}
+use Rattle.capture.proofs.CommandLaws.{size-by}
 use Rattle.capture.specs.Capture.{fits, call_of, after_call, done_of, drained_of, reads}
-use Rattle.capture.specs.Drains.{still, drain-idle}
+use Rattle.capture.proofs.Drains.{still, drain-idle}
 use Rattle.capture.proofs.Texts.{whole-size, size-whole}
 use Rattle.broadcast.specs.Account.{account, events, lanes_after}
 use Rattle.broadcast.specs.Drains.{Shown, strip, Drains}

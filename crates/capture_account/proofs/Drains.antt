@@ -9,14 +9,16 @@ use Rattle.queue.specs.declared.event.Event.TheVariants.{Nothing, Note, Unit, Re
 use Rattle.state.specs.State.{Answer, State, with_owed}
 use Rattle.frames.specs.Slot.{short_by}
 use Rattle.receiver.specs.Show.{show_of}
-use Rattle.receiver.specs.Next.{NextOut, next_of, next-short, next-idle}
+use Rattle.receiver.specs.Next.{NextOut, next_of}
+use Rattle.receiver.proofs.NextLaws.{next-short, next-idle}
 use Rattle.lines.specs.Line.{is_line}
 use Rattle.capture.specs.declared.session.Phase.TheVariants.{Reading}
 use Rattle.capture.specs.Session.{Session, with_tally}
 use Rattle.capture.specs.declared.session.Tally.{Tally}
-use Rattle.capture.specs.Waits.{waits, next-falls, next-owes}
+use Rattle.capture.specs.Waits.{waits}
+use Rattle.capture.proofs.WaitsLaws.{next-falls, next-owes}
 use Rattle.capture.specs.Capture.{Drained, event_by, tallied, closed, drained_by, drained_of}
-use Rattle.capture.specs.Drains.{drain-idle}
+use Rattle.capture.proofs.Drains.{drain-idle}
 use Rattle.broadcast.specs.Drains.{Shown, note, shown, Drains, stops, notes, units}
 use Rattle.capture_account.specs.Events.{Placed, Waited, placed_as, waited_then, waited_by, waited_of}
 use Rattle.capture_account.specs.Places.{placed_at}

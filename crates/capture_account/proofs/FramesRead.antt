@@ -15,7 +15,8 @@ use Rattle.tmcc.proofs.Laws.{accepted as tmcc-accepted}
 use Rattle.tlv.specs.Run.{Arrival, lost}
 use Rattle.frames.specs.Slot.{wrong_length}
 use Rattle.capture.specs.declared.command.Letter.TheVariants.{Start}
-use Rattle.capture.specs.Command.{letter_of, size-by}
+use Rattle.capture.specs.Command.{letter_of}
+use Rattle.capture.proofs.CommandLaws.{size-by}
 use Rattle.broadcast.specs.Account.{account}
 use Rattle.broadcast.specs.Drains.{strip}
 use Rattle.broadcast.specs.Calls.{Call, frame, lost-frame, slot, Todo}

@@ -18,9 +18,10 @@ use Rattle.state.specs.Start.{start_of, fresh_state}
 use Rattle.frames.specs.Slot.{short_by}
 use Rattle.capture.specs.declared.command.Letter.TheVariants.{Start}
 use Rattle.capture.specs.declared.session.Tally.{Tally}
-use Rattle.capture.specs.Command.{size_of, whole, size-by, size_none}
+use Rattle.capture.specs.Command.{size_of, whole}
+use Rattle.capture.proofs.CommandLaws.{size-by, size_none}
 use Rattle.capture.specs.Session.{fresh_session}
-use Rattle.capture.specs.Drains.{drain-idle}
+use Rattle.capture.proofs.Drains.{drain-idle}
 use Rattle.broadcast.specs.Account.{account}
 use Rattle.broadcast.specs.Carried.{inputs, row_inputs, carried_units}
 use Rattle.broadcast.specs.Drains.{strip}

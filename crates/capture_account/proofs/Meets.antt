@@ -22,7 +22,7 @@ use Rattle.broadcast.specs.Carried.{carried_units, intact_units, contents}
 use Rattle.broadcast.specs.Frames.{Frame, Damage, none, slots_todo, reading}
 use Rattle.broadcast.specs.Demand3.{NoNote, Reads, slots_of, kept}
 use Rattle.broadcast.specs.Broadcast.{config, frames, Assumed, Memories, Remain, slot_lost, frame_lost}
-use Rattle.frames.specs.Slot.{right-length}
+use Rattle.frames.proofs.SlotLaws.{right-length}
 use Rattle.broadcast.proofs.SlotCalls.{SlotsFit}
 use Rattle.broadcast.proofs.Reading.{FramesFit, frames-fit}
 use Rattle.broadcast.proofs.Demand3.{start-at, shows-account, demand_3}

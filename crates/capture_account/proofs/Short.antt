@@ -9,13 +9,15 @@ use lib.ListN.{length, get_or, take, drop}
 use borrow.Author.Tests.{eqb-true, eqb-false, ne_eqb, ltb-false}
 use Rattle.tmcc.specs.Block.{decode_of}
 use Rattle.reassembly.specs.declared.config.Config.{Config}
-use Rattle.wire.specs.Choice.{neither}
+use Rattle.wire.proofs.Choice.{neither}
 use Rattle.words.specs.Config.{kept_config}
 use Rattle.state.specs.State.{Called, State, with_frame, refused as refusedWith, accepted as acceptedAs}
 use Rattle.state.specs.Start.{fresh_state}
-use Rattle.frames.specs.Frame.{frame_busy, frame_of, loss_of, lost_frame_of, frame-short, frame-busy, frame_refused, frame-accepted, lost-frame-busy, lost-frame-accepted}
-use Rattle.frames.specs.Slot.{short_by, slot_refusal, slot-refused, lost-refused}
-use Rattle.receiver.specs.Next.{next-short}
+use Rattle.frames.specs.Frame.{frame_busy, frame_of, loss_of, lost_frame_of}
+use Rattle.frames.proofs.FrameLaws.{frame-short, frame-busy, frame_refused, frame-accepted, lost-frame-busy, lost-frame-accepted}
+use Rattle.frames.specs.Slot.{short_by, slot_refusal}
+use Rattle.frames.proofs.SlotLaws.{slot-refused, lost-refused}
+use Rattle.receiver.proofs.NextLaws.{next-short}
 use Rattle.capture.specs.declared.command.Letter.{Letter}
 use Rattle.capture.specs.declared.command.Letter.TheVariants.{Start, Frame, LostFrame, Slot, LostSlot, Unknown}
 use Rattle.capture.specs.declared.session.Phase.TheVariants.{Reading, Ended}
@@ -23,7 +25,7 @@ use Rattle.capture.specs.Session.{Session, fresh_session}
 use Rattle.capture.specs.declared.session.Tally.{Tally}
 use Rattle.capture.specs.Command.{letter_of, size_of, whole}
 use Rattle.capture.specs.Capture.{fits, call_of, closed, tallied, drained_by, drained_of}
-use Rattle.capture.specs.Drains.{drain-idle}
+use Rattle.capture.proofs.Drains.{drain-idle}
 use Rattle.capture.proofs.Texts.{whole-size}
 use Rattle.broadcast.proofs.Demand3.{start-accepted}
 use Rattle.capture_account.specs.Events.{Meaning, Waited, waited_by, waited_of, meaning_by, meaning_of}

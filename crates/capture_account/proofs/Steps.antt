@@ -7,7 +7,7 @@ use native.Mathlib.Omega.{arith}
 use lib.Dec.{eqb, ltb, leb}
 use lib.ListN.{length, get_or, drop}
 use borrow.Author.Tests.{eqb-true, eqb-false, ltb-false, leb-false}
-use Rattle.wire.specs.Choice.{either}
+use Rattle.wire.proofs.Choice.{either}
 use Rattle.tmcc.specs.declared.layout.Layout.{Layout}
 use Rattle.tmcc.specs.Block.{decode_of}
 use Rattle.tlv.specs.Run.{Arrival, State as Slot-state, Stepped, lost, step, run, state_after}
@@ -15,9 +15,10 @@ use Rattle.reassembly.specs.declared.config.Config.{Config}
 use Rattle.reassembly.specs.Run.{Lane}
 use Rattle.words.specs.Config.{KeptConfig, kept_config}
 use Rattle.state.specs.State.{Called, State, Frame as ReceiverFrame, with_frame, refused as refusedWith, accepted as acceptedAs}
-use Rattle.frames.specs.Slot.{counted, wrong_length, slot_refusal, slot_of, lost_slot_of, slot_taken, loss_taken, due_length, due_own, due_pointers, short_by, long-enough}
+use Rattle.frames.specs.Slot.{counted, wrong_length, slot_refusal, slot_of, lost_slot_of, slot_taken, loss_taken, due_length, due_own, due_pointers, short_by}
+use Rattle.frames.proofs.SlotLaws.{long-enough}
 use Rattle.frames.specs.Frame.{frame_busy, frame_of, loss_of, lost_frame_of}
-use Rattle.receiver.specs.Next.{next-idle}
+use Rattle.receiver.proofs.NextLaws.{next-idle}
 use Rattle.capture.specs.declared.command.Letter.{Letter}
 use Rattle.capture.specs.declared.command.Letter.TheVariants.{Start, Frame, LostFrame, Slot, LostSlot, Unknown}
 use Rattle.capture.specs.declared.session.Phase.TheVariants.{Reading}

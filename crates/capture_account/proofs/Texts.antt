@@ -35,7 +35,7 @@ use Rattle.capture.specs.Capture.{
   text_of,
   capture_of,
 }
-use Rattle.capture.specs.Drains.{still, drain-idle}
+use Rattle.capture.proofs.Drains.{still, drain-idle}
 use Rattle.capture_account.specs.Events.{
   Placed,
   Meaning,

@@ -6,7 +6,7 @@ use mathlib.Core.List.{List, [], ◌∷◌, ◌++◌}
 use native.Mathlib.Omega.{arith}
 use lib.ListN.{length, get_or, take, drop}
 use lib.Dec.{eqb}
-use Rattle.wire.specs.Choice.{either}
+use Rattle.wire.proofs.Choice.{either}
 use Rattle.queue.specs.declared.event.Event.{Event}
 use Rattle.queue.specs.declared.event.Event.TheVariants.{Nothing, Note, Unit, Refused}
 use Rattle.state.specs.State.{Called, State}
@@ -17,7 +17,7 @@ use Rattle.capture.specs.Session.{Session, is_ended, busy, with_state, with_tall
 use Rattle.capture.specs.declared.session.Tally.{Tally}
 use Rattle.capture.specs.Command.{letter_of, size_of}
 use Rattle.capture.specs.Capture.{Done, Drained, fits, call_of, after_call, done_of, tallied, closed, event_by, drained_by, drained_of, reads}
-use Rattle.capture.specs.Drains.{still}
+use Rattle.capture.proofs.Drains.{still}
 use Rattle.broadcast.specs.Drains.{Shown, note, unit}
 use Rattle.broadcast.specs.Demand3.{units_of}
 use Rattle.capture_account.specs.Events.{

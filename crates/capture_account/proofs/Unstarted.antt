@@ -11,7 +11,8 @@ use Rattle.state.specs.Start.{start_of}
 use Rattle.capture.specs.declared.command.Letter.{Letter}
 use Rattle.capture.specs.declared.command.Letter.TheVariants.{Start, Frame, LostFrame, Slot, LostSlot, Unknown}
 use Rattle.capture.specs.declared.session.Phase.TheVariants.{Before}
-use Rattle.capture.specs.Command.{letter_of, size_of, whole, size-by, config_of}
+use Rattle.capture.specs.Command.{letter_of, size_of, whole, config_of}
+use Rattle.capture.proofs.CommandLaws.{size-by}
 use Rattle.capture.specs.Session.{fresh_session}
 use Rattle.capture.specs.Capture.{fits, call_of}
 use Rattle.capture.proofs.Texts.{whole-size, size-whole}

@@ -7,10 +7,11 @@ use native.Mathlib.Omega.{arith}
 use native.Mathlib.Nat.{div-add-mod'}
 use lib.ListN.{length, get_or, length-append, get_or-append}
 use lib.Seq.{take_at, drop_at}
-use Rattle.wire.specs.Field.{be-2}
+use Rattle.wire.proofs.FieldLaws.{be-2}
 use Rattle.capture.specs.declared.command.Letter.{Letter}
 use Rattle.capture.specs.declared.command.Letter.TheVariants.{Frame, LostFrame, Slot, LostSlot}
-use Rattle.capture.specs.Command.{letter_of, size_of, slot_size, whole, size-by, size-kept, size_none, slot-size-known}
+use Rattle.capture.specs.Command.{letter_of, size_of, slot_size, whole}
+use Rattle.capture.proofs.CommandLaws.{size-by, size-kept, size_none, slot-size-known}
 use Rattle.capture.proofs.Texts.{size-whole}
 use Rattle.broadcast.specs.Calls.{Call, frame, lost-frame, slot, lost-slot, next}
 use Rattle.capture_account.specs.Calls.{call_then, command_calls_by}

@@ -8,3 +8,5 @@ pub mod Refusals
 pub mod Sound
 pub mod Steps
 pub mod Runs
+pub mod ExamplesLaws
+pub mod SlotLaws

@@ -10,7 +10,7 @@ use lib.Seq.{length-take-le, drop-drop}
 use lib.Dec.{eqb}
 use borrow.Author.Tests.{eqb-true, eq-eqb, ne_eqb}
 use Rattle.tlv.specs.Packet.{total, complete, cut}
-use Rattle.tlv.specs.Cuts.{complete-fits, cut-end, cut-more, cut-tail-length}
+use Rattle.tlv.proofs.CutsLaws.{complete-fits, cut-end, cut-more, cut-tail-length}
 use Rattle.tlv.specs.Slot.{none}
 use Rattle.cutter.specs.Pointers.{top_with, last_with}
 use Rattle.cutter.specs.Slot.{whole}

@@ -8,8 +8,10 @@ use native.Mathlib.Omega.{arith}
 use lib.ListN.{length, length-append}
 use lib.Dec.{eqb, leb, ltb}
 use borrow.Author.Tests.{le-leb, lt-leb, lt-ltb, le-ltb, eqb-true, eq-eqb, ne_eqb, leb-true, ltb-true}
-use Rattle.wire.specs.Lists.{put, sift, sift-append}
-use Rattle.tlv.specs.Cuts.{AllSized, row}
+use Rattle.wire.specs.Lists.{put, sift}
+use Rattle.wire.proofs.ListsLaws.{sift-append}
+use Rattle.tlv.specs.Cuts.{AllSized}
+use Rattle.tlv.proofs.CutsLaws.{row}
 use Rattle.tlv.specs.Slot.{none, last_pointer}
 use Rattle.cutter.specs.Pointers.{starts, ends, in_slot, ends_in, first_offset, last_offset, top_with, last_with}
 

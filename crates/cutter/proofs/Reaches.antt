@@ -11,7 +11,7 @@ use lib.Dec.{eqb, leb}
 use borrow.Author.Tests.{le-leb, lt-leb, eq-eqb, ne_eqb}
 use Rattle.wire.specs.Lists.{sift}
 use Rattle.tlv.specs.Packet.{total, complete, cut}
-use Rattle.tlv.specs.Cuts.{row, cut-whole, cut-sized, cut-append}
+use Rattle.tlv.proofs.CutsLaws.{row, cut-whole, cut-sized, cut-append}
 use Rattle.tlv.specs.Slot.{none, last_pointer}
 use Rattle.cutter.specs.Pointers.{starts, ends, in_slot}
 use Rattle.cutter.proofs.Places.{in_before, in_past, in_there, last_from, starts-before, ends-before}

@@ -10,7 +10,8 @@ use borrow.Author.Tests.{eqb-true, eqb-false}
 use Rattle.tmcc.specs.declared.layout.Pointers.{Pointers}
 use Rattle.cutter.specs.declared.slot.CutSlot.{CutSlot}
 use Rattle.cutter.specs.declared.slot.CutSlot.TheVariants.{Cut, Refused}
-use Rattle.cutter.specs.Slot.{cut_refusal, slot_at, pointed, slot_cut, refusal_bounds}
+use Rattle.cutter.specs.Slot.{cut_refusal, slot_at, pointed, slot_cut}
+use Rattle.cutter.proofs.SlotLaws.{refusal_bounds}
 use Rattle.cutter.specs.Claims.{CutRefused}
 
 module _ (run : List ℕ) (l s : ℕ) (output : List ℕ) where

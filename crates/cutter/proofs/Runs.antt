@@ -18,7 +18,8 @@ use Rattle.tlv.specs.Claims.{Seen, Filled, seen, seen_in_row}
 use Rattle.tlv.proofs.Runs.{step_given}
 use Rattle.tlv.proofs.RowCuts.{bytes-tagged, bytes-append, row_cut}
 use Rattle.tlv.proofs.Rows.{run_row}
-use Rattle.cutter.specs.Slot.{slot_at, accepts, slot-cut}
+use Rattle.cutter.specs.Slot.{slot_at}
+use Rattle.cutter.proofs.SlotLaws.{accepts, slot-cut}
 use Rattle.cutter.specs.Claims.{slots_from, AllShort, CutEach, CutRun}
 use Rattle.cutter.proofs.Packets.{whole-good}
 use Rattle.cutter.proofs.Table.{listed_bounds}

@@ -13,10 +13,12 @@ use borrow.Author.Tests.{le-leb, lt-leb, lt-ltb, eq-eqb, ne_eqb}
 use Rattle.wire.specs.Lists.{sift}
 use Rattle.tmcc.specs.declared.layout.Pointers.{Pointers}
 use Rattle.tlv.specs.Packet.{total, complete, cut}
-use Rattle.tlv.specs.Cuts.{row, cut-more, cut-end, cut-sized}
-use Rattle.tlv.specs.Slot.{none, end_from, last_pointer, sound, sound-without-top}
+use Rattle.tlv.proofs.CutsLaws.{row, cut-more, cut-end, cut-sized}
+use Rattle.tlv.specs.Slot.{none, end_from, last_pointer, sound}
+use Rattle.tlv.proofs.SlotLaws.{sound-without-top}
 use Rattle.cutter.specs.Pointers.{starts, ends, in_slot, ends_in, first_offset, top_of, last_of}
-use Rattle.cutter.specs.Slot.{slot_at, accepted, slot-within, slot-cut}
+use Rattle.cutter.specs.Slot.{slot_at}
+use Rattle.cutter.proofs.SlotLaws.{accepted, slot-within, slot-cut}
 use Rattle.cutter.specs.Claims.{CutSound}
 use Rattle.cutter.proofs.Places.{in_past, in_there, last_from, starts-past, ends-past}
 use Rattle.cutter.proofs.Places.{starts-behind, last-append, last_within, last_done, pointer-end}

@@ -8,8 +8,8 @@ use native.Mathlib.Decide.{dec_le}
 use lib.ListN.{length, take, drop, length-append, length-take, length-drop, take-append-drop}
 use lib.Seq.{length-take-le, take-length, drop-length, take-append-add}
 use Rattle.tlv.specs.Packet.{total, complete, marked, cut}
-use Rattle.tlv.specs.Cuts.{total-bytes, total-take, marked_append, complete-fits, complete_if, short-header, short-packet}
-use Rattle.tlv.specs.Cuts.{cut_induct, cut-end, cut-more, cut-nil, cut-append}
+use Rattle.tlv.proofs.CutsLaws.{total-bytes, total-take, marked_append, complete-fits, complete_if, short-header, short-packet}
+use Rattle.tlv.proofs.CutsLaws.{cut_induct, cut-end, cut-more, cut-nil, cut-append}
 
 -- whole packets, each with a good first byte
 pub record Whole (b : List ℕ) : Type 0 where

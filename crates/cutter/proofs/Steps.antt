@@ -11,10 +11,10 @@ use lib.Dec.{eqb, leb, ltb}
 use borrow.Author.Tests.{eq-eqb, ne_eqb, le-ltb, le-leb, lt-leb, eqb-false}
 use Rattle.tlv.specs.declared.held.Continuation.TheVariants.{Ends, GoesOn}
 use Rattle.tlv.specs.Packet.{total, max_packet, too_long, cut}
-use Rattle.tlv.specs.Cuts.{total-bytes, total-take, cut-more}
+use Rattle.tlv.proofs.CutsLaws.{total-bytes, total-take, cut-more}
 use Rattle.tlv.specs.Slot.{none, sound}
 use Rattle.tlv.specs.Held.{held_total, held_end, end_within, end_beyond, continuation_of}
-use Rattle.tlv.specs.Held.{nothing-held, held-without-top, held-before-top}
+use Rattle.tlv.proofs.HeldLaws.{nothing-held, held-without-top, held-before-top}
 use Rattle.tlv.specs.Run.{Slot, without_top, Event, note, packet, State, searching, held, Stepped}
 use Rattle.tlv.specs.Run.{packet_of, after, kept, read_from, finished, resumed, arrived, Clean}
 use Rattle.cutter.specs.Pointers.{top_of, last_of}

@@ -1,24 +1,16 @@
 -- Examples of slots of 1870 bytes, and of the refusals in their order.
 use Rattle.std.specs.Prelude.{ℕ, ◌+◌, ◌*◌, ◌≡◌, List, [], ◌∷◌, ◌++◌, replicate}
-use Rattle.std.proofs.Math.Path.{refl}
-use Rattle.std.proofs.Common.{arith}
-use Rattle.wire.specs.Field.{be}
-use Rattle.tmcc.specs.Count.{all_below}
-use Rattle.tmcc.specs.Mode.{data_bytes}
-use Rattle.tlv.specs.Packet.{good_first, total, complete, marked, cut_by, cut}
 use Rattle.tlv.specs.Slot.{none}
 use Rattle.cutter.specs.declared.slot.CutSlot.{CutSlot}
 use Rattle.cutter.specs.declared.slot.CutSlot.TheVariants.{Cut, Refused}
-use Rattle.cutter.specs.Pointers.{starts, ends, in_slot, top_of, last_of}
-use Rattle.cutter.specs.Slot.{whole, unlisted, cut_refusal, slot_at, slot_cut}
-use Rattle.cutter.specs.Claims.{Fills, AllShort}
+use Rattle.cutter.specs.Slot.{slot_cut}
 
 -- a packet whose length field has these two bytes
 abbrev packet_of : ℕ → ℕ → List ℕ
 packet_of high low = 0x7f ∷ 3 ∷ high ∷ low ∷ replicate (256 * high + low) 0
 
 -- two slots: a packet of 1868 bytes, and one of 1872 whose header the slots share
-abbrev shared : List ℕ
+abbrev pub shared : List ℕ
 shared = packet_of 0x07 0x48 ++ packet_of 0x07 0x4c
 
 -- three slots: a packet of 1900 bytes, and one of 3710
@@ -54,12 +46,6 @@ Examples =
     × (cut_of even 0 ≡ pointers 0 1870)
     × (cut_of even 1 ≡ pointers 0 1870)
 
-pub examples : Examples
-examples =
-    unfold be all_below data_bytes good_first total complete marked cut_by cut in
-    unfold starts ends in_slot top_of last_of whole unlisted cut_refusal slot_at slot_cut in
-    (refl, refl, refl, refl, refl, refl, refl, refl)
-
 -- a refused call whose output has k bytes: the number, and the output as it was
 abbrev Refuses : ℕ → List ℕ → ℕ → ℕ → ℕ → Type 0
 Refuses n run l s k = slot_cut run l s (output k) ≡ (Refused n, output k)
@@ -82,14 +68,3 @@ Refusals =
     -- 78: a byte less, a byte more
     × Refuses 78 even 1870 1 1869
     × Refuses 78 even 1870 1 1871
-
-pub refusals : Refusals
-refusals =
-    unfold be all_below data_bytes good_first total complete marked cut_by cut in
-    unfold whole unlisted cut_refusal slot_cut in
-    (refl, refl, refl, refl, refl, refl, refl, refl, refl, refl, refl, refl)
-
--- a run that the claims speak of
-pub shared_fills : Fills shared 1870 2 × AllShort (cut shared).packets
-unfolding be all_below data_bytes good_first total complete marked cut_by cut whole unlisted
-shared_fills = (record { packets = refl; listed = refl; multiple = refl }, (omega arith, (omega arith, tt)))

@@ -1,16 +1,12 @@
 -- Examples of packets joined over collecting memory, computed over the definitions.
-use Rattle.std.specs.Prelude.{ℕ, ◌≡◌, refl, true, false, List, [], ◌∷◌, ◌++◌, replicate, length}
-use Rattle.wire.specs.Memory.{part_of, pasted}
+use Rattle.std.specs.Prelude.{ℕ, ◌≡◌, true, false, List, [], ◌∷◌, ◌++◌, replicate, length}
 use Rattle.mmtp.specs.declared.payload.Indicator.{Indicator}
 use Rattle.mmtp.specs.declared.payload.Indicator.TheVariants.{First, Last}
-use Rattle.mmtp.specs.Unit.{field_bytes, fields_of, single_fits, single_unit, single_at}
 use Rattle.reassembly.specs.declared.channel.Channel.{Channel}
-use Rattle.reassembly.specs.Unit.{agrees}
-use Rattle.reassembly.specs.Channel.{next_psn, heard, gap, unheard}
-use Rattle.reassembly.specs.Join.{interrupted, begun, counter_follows, grown, extended, followed, acted, join_of}
+use Rattle.reassembly.specs.Channel.{unheard}
 use Rattle.delivery.specs.declared.packet.Arrived.{Arrived}
 use Rattle.delivery.specs.declared.packet.Arrived.TheVariants.{Good}
-use Rattle.delivery.specs.Packet.{JoinedPacket, first_unit, collected, give_of, joined_of, received_of}
+use Rattle.delivery.specs.Packet.{JoinedPacket, received_of}
 use Rattle.queue.specs.Queue.{empty}
 
 -- a signalling piece that is all of packet memory, of the packet_id at place 1
@@ -48,8 +44,3 @@ Examples =
     × ((join unheard First 1 5 (1 ∷ 2 ∷ 3 ∷ 4 ∷ 5 ∷ []) zeros).1 ≡ zeros)
     -- nor does one noted 60
     × ((join begun-unit Last 0 7 (4 ∷ []) zeros).1 ≡ zeros) × ((join begun-unit Last 0 7 (4 ∷ []) zeros).0.queue.note ≡ 60)
-
-pub examples : Examples
-unfolding part_of pasted field_bytes fields_of single_fits single_unit single_at agrees next_psn heard gap unheard interrupted begun counter_follows
-    grown extended followed acted join_of first_unit collected give_of joined_of received_of
-examples = (refl, refl, refl, refl, refl, refl, refl)

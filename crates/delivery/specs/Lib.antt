@@ -3,5 +3,4 @@ pub mod Packet
 pub mod Within
 pub mod Cursor
 pub mod Words
-pub mod Joining
 pub mod Examples

@@ -9,21 +9,26 @@ use borrow.Author.Tests.{leb-true, eqb-true, eqb-false, not-true, ltb-true, ltb-
 use lib.ListN.{length, get_or, take, drop, length-append, length-drop, take-append-drop}
 use lib.Seq.{take-paste, take_at, drop_at, drop-drop, length-take-le}
 use lib.Dec.{eqb, ltb}
-use Rattle.wire.specs.Memory.{pasted, length-pasted}
-use Rattle.wire.specs.Choice.{by_test}
+use Rattle.wire.specs.Memory.{pasted}
+use Rattle.wire.proofs.MemoryLaws.{length-pasted}
+use Rattle.wire.proofs.Choice.{by_test}
 use Rattle.capture.specs.declared.command.Letter.{Letter}
 use Rattle.capture.specs.declared.command.Letter.TheVariants.{Start, Frame, LostFrame, Slot, LostSlot, Unknown}
 use Rattle.capture.specs.declared.session.Phase.{Phase}
 use Rattle.capture.specs.declared.session.Phase.TheVariants.{Before, Reading, Ended}
 use Rattle.capture.specs.Session.{Session, busy, is_reading, is_ended, in_phase, with_state}
-use Rattle.lines.specs.Line.{longest_line, refused_line, field-21}
-use Rattle.lines.specs.Text.{wrote, wrote_none, wrote-end, length-wrote, wrote-append}
-use Rattle.capture.specs.Command.{longest_command, letter_of, size_of, whole, size-by, slot-size-within, size-kept, size-grows, size-most, size_none}
+use Rattle.lines.specs.Line.{longest_line, refused_line}
+use Rattle.lines.proofs.LineLaws.{field-21}
+use Rattle.lines.specs.Text.{wrote}
+use Rattle.lines.proofs.TextLaws.{wrote_none, wrote-end, length-wrote, wrote-append}
+use Rattle.capture.specs.Command.{longest_command, letter_of, size_of, whole}
+use Rattle.capture.proofs.CommandLaws.{size-by, slot-size-within, size-kept, size-grows, size-most, size_none}
 use Rattle.capture.specs.Capture.{Done, fits, call_of, after_call, settled, done_of, last_line, text_of}
 use Rattle.capture.specs.Steps.{roomy, acted_of, poured_of}
-use Rattle.feeding.specs.Feed.{World, held_of, wanted_of, kept_of, Keeps, whole_size, gathered_of, bytes_taken, source_of, ran_of, goes_by, goes, turn_of, fed_by, fed_from, keeps-all, keeps-none, wanted_first, wanted_rest, kept-all, kept-none, ran-part, ran-whole, goes-read, whole-front, taken-whole, taken-held, taken-part, source_block, source_gathered, turn_by_lem}
+use Rattle.feeding.specs.Feed.{World, held_of, wanted_of, kept_of, Keeps, whole_size, gathered_of, bytes_taken, source_of, ran_of, goes_by, goes, turn_of, fed_by, fed_from}
+use Rattle.feeding.proofs.FeedLaws.{keeps-all, keeps-none, wanted_first, wanted_rest, kept-all, kept-none, ran-part, ran-whole, goes-read, whole-front, taken-whole, taken-held, taken-part, source_block, source_gathered, turn_by_lem}
 use Rattle.feeding.specs.Claims.{Right, ahead, Feeds, FeedClaim}
-use Rattle.capture.specs.Drains.{drain-idle}
+use Rattle.capture.proofs.Drains.{drain-idle}
 use Rattle.capture.proofs.Pours.{pour_claim}
 use Rattle.capture.proofs.Texts.{size-whole, text-step, text-behind}
 

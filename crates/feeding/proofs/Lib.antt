@@ -3,3 +3,4 @@ pub mod Feeds
 pub mod Playing
 pub mod Progress
 pub mod Whole
+pub mod FeedLaws

@@ -11,12 +11,14 @@ use lib.Dec.{eqb}
 use Rattle.wire.specs.Memory.{pasted}
 use Rattle.lines.specs.Text.{wrote}
 use Rattle.capture.specs.Session.{busy}
-use Rattle.capture.specs.Command.{longest_command, size_of, whole, size_none}
+use Rattle.capture.specs.Command.{longest_command, size_of, whole}
+use Rattle.capture.proofs.CommandLaws.{size_none}
 use Rattle.capture.specs.Capture.{last_line, text_of, capture_of}
-use Rattle.feeding.specs.Feed.{World, held_of, kept_of, left_by, entered, fed_from, fed-long, kept-all, kept-none}
+use Rattle.feeding.specs.Feed.{World, held_of, kept_of, left_by, entered, fed_from}
+use Rattle.feeding.proofs.FeedLaws.{fed-long, kept-all, kept-none}
 use Rattle.feeding.specs.Claims.{Right}
 use Rattle.feeding.specs.Plays.{Player, fed, after_feed, poured, after_pour, Plays, stops, feeds, pours, first, PlayClaim}
-use Rattle.capture.specs.Drains.{drain-idle}
+use Rattle.capture.proofs.Drains.{drain-idle}
 use Rattle.capture.proofs.Pours.{pour_claim}
 use Rattle.capture.proofs.Texts.{text-step, text-behind, whole-size}
 use Rattle.feeding.proofs.Feeds.{feed_claim, ended-text}

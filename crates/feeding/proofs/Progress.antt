@@ -8,15 +8,18 @@ use native.Mathlib.Omega.{arith}
 use borrow.Author.Tests.{lt-ltb, le-leb}
 use lib.ListN.{length}
 use Rattle.queue.specs.declared.event.Event.{Event}
-use Rattle.wire.specs.Choice.{by_test}
+use Rattle.wire.proofs.Choice.{by_test}
 use Rattle.receiver.specs.Next.{next_of}
 use Rattle.capture.specs.Session.{Session, busy, with_state, with_tally}
 use Rattle.lines.specs.Text.{wrote}
 use Rattle.lines.specs.Line.{longest_line, is_line}
-use Rattle.capture.specs.Waits.{waits, next-falls}
+use Rattle.capture.specs.Waits.{waits}
+use Rattle.capture.proofs.WaitsLaws.{next-falls}
 use Rattle.capture.specs.Capture.{event_line, tallied}
-use Rattle.capture.specs.Steps.{Poured, pour_by, roomy, poured_by, poured_of, pour_step}
-use Rattle.feeding.specs.Feed.{World, kept_of, goes_by, goes, turn_of, fed_by, fed_from, entered, Wants, kept_wants, turn-reads, fed-turn, fed-long}
+use Rattle.capture.specs.Steps.{Poured, pour_by, roomy, poured_by, poured_of}
+use Rattle.capture.proofs.StepsLaws.{pour_step}
+use Rattle.feeding.specs.Feed.{World, kept_of, goes_by, goes, turn_of, fed_by, fed_from, entered, Wants}
+use Rattle.feeding.proofs.FeedLaws.{kept_wants, turn-reads, fed-turn, fed-long}
 use Rattle.feeding.specs.Progress.{FeedGetsOn, Less, PourGetsOn}
 use Rattle.capture.proofs.Pours.{closed-idle}
 

@@ -7,17 +7,19 @@ use native.Mathlib.Omega.{arith}
 use borrow.Author.Tests.{ltb-false}
 use lib.ListN.{length, drop, drop_of_length-le}
 use lib.Dec.{ltb}
-use Rattle.wire.specs.Choice.{by_test}
+use Rattle.wire.proofs.Choice.{by_test}
 use Rattle.queue.specs.declared.event.Event.{Event}
 use Rattle.receiver.specs.Next.{next_of}
 use Rattle.lines.specs.Text.{wrote}
 use Rattle.lines.specs.Line.{is_line}
 use Rattle.capture.specs.Session.{Session, busy, is_ended, with_state, with_tally, fresh_session}
 use Rattle.capture.specs.Command.{longest_command, size_of}
-use Rattle.capture.specs.Waits.{waits, next-falls}
+use Rattle.capture.specs.Waits.{waits}
+use Rattle.capture.proofs.WaitsLaws.{next-falls}
 use Rattle.capture.specs.Capture.{event_line, tallied, last_line, text_of, capture_of}
 use Rattle.capture.specs.Steps.{Poured, pour_by, roomy, acted_of, poured_by, poured_of}
-use Rattle.feeding.specs.Feed.{World, Wants, Ran, ran_of, goes_by, goes, turn_of, turn_wants, turn-reads, goes-read, fed_by, fed_from, entered, left_by, fed-long, keeps-none}
+use Rattle.feeding.specs.Feed.{World, Wants, Ran, ran_of, goes_by, goes, turn_of, fed_by, fed_from, entered, left_by}
+use Rattle.feeding.proofs.FeedLaws.{turn_wants, turn-reads, goes-read, fed-long, keeps-none}
 use Rattle.feeding.specs.Claims.{ahead}
 use Rattle.feeding.specs.Plays.{Player, first, fed, after_feed, WholeClaim}
 use Rattle.capture.proofs.Pours.{closed-idle}

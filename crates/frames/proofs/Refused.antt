@@ -6,7 +6,7 @@ use mathlib.Core.List.{List}
 use native.Mathlib.Omega.{arith}
 use lib.ListN.{length}
 use lib.Dec.{eqb, leb}
-use Rattle.wire.specs.Choice.{either}
+use Rattle.wire.proofs.Choice.{either}
 use Rattle.tmcc.specs.declared.layout.Pointers.{Pointers}
 use Rattle.tmcc.specs.Block.{decode_of}
 use Rattle.tmcc.proofs.Laws.{refusal-number}

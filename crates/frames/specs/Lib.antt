@@ -1,5 +1,3 @@
 -- The definitions of frame, lost frame, slot and lost slot.
 pub mod Frame
 pub mod Slot
-pub mod Due
-pub mod Examples

@@ -7,16 +7,19 @@ use native.Mathlib.Omega.{arith}
 use borrow.Author.Tests.{ltb-true, ltb-false}
 use lib.Dec.{ltb}
 use lib.ListN.{length, take, drop, length-drop}
-use Rattle.wire.specs.Memory.{pasted, pasted-zero, pasted-take, part_length, length-pasted}
-use Rattle.wire.specs.Choice.{neither}
+use Rattle.wire.specs.Memory.{pasted}
+use Rattle.wire.proofs.MemoryLaws.{pasted-zero, pasted-take, part_length, length-pasted}
+use Rattle.wire.proofs.Choice.{neither}
 use Rattle.tmcc.specs.declared.layout.Pointers.{Pointers}
 use Rattle.tlv.specs.declared.held.Continuation.{Continuation}
 use Rattle.tlv.specs.declared.held.Continuation.TheVariants.{Dropped, Ends, GoesOn}
 use Rattle.tlv.specs.Slot.{sound}
 use Rattle.tlv.specs.Held.{continuation_of}
 use Rattle.intake.specs.declared.held.Held.{Held}
-use Rattle.intake.specs.Slot.{slot_area, packet_memory, held_bytes, held_len, moved_mem, continued_mem, resumed_mem, resumed_of, resumed, taken_by, copied, intake_of, IntakeOut}
-use Rattle.intake.specs.Early.{free_part, free_all, free-none, free-below, held-early, continued-early, pasted-rest}
+use Rattle.intake.specs.Slot.{slot_area, packet_memory, held_bytes, held_len, moved_mem, continued_mem, resumed_mem, resumed_of, taken_by, copied, intake_of, IntakeOut}
+use Rattle.intake.proofs.SlotFacts.{resumed}
+use Rattle.intake.specs.Early.{free_part}
+use Rattle.intake.proofs.EarlyLaws.{free_all, free-none, free-below, held-early, continued-early, pasted-rest}
 use Rattle.intake.proofs.SlotLaws.{Room, part_room, ends-room, goes-on-room, held_fits}
 
 -- bytes of the slot were put in before

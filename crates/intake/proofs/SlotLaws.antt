@@ -8,10 +8,12 @@ use native.Mathlib.Omega.{arith}
 use lib.ListN.{length, take, drop, length-take, length-drop}
 use lib.Dec.{eqb, ltb, leb}
 use borrow.Author.Tests.{eqb-true, eqb-false, ltb-true, ltb-false}
-use Rattle.wire.specs.Memory.{part_of, pasted, pasted-take}
+use Rattle.wire.specs.Memory.{part_of, pasted}
+use Rattle.wire.proofs.MemoryLaws.{pasted-take}
 use Rattle.tlv.specs.declared.note.SlotNote.TheVariants.{Misfit, TooLong}
 use Rattle.tlv.specs.declared.held.Continuation.TheVariants.{Dropped, Ends, GoesOn}
-use Rattle.tlv.specs.Slot.{none, sound, unsound_outside}
+use Rattle.tlv.specs.Slot.{none, sound}
+use Rattle.tlv.proofs.SlotLaws.{unsound_outside}
 use Rattle.tlv.specs.Held.{end_within, end_beyond, held_total, held_end, continuation_of}
 use Rattle.intake.specs.declared.held.Held.{Held}
 use Rattle.intake.specs.Slot.{held_bytes, held_len}

@@ -1,23 +1,7 @@
 -- Examples of slots in packet memory, computed over the definitions: what stands from byte 0 and from byte 16,384 after each.
-use Rattle.std.specs.Prelude.{ℕ, ◌≡◌, refl, List, [], ◌∷◌, ◌++◌, take, drop, replicate}
-use Rattle.wire.specs.Memory.{part_of, pasted}
-use Rattle.wire.specs.Field.{be}
-use Rattle.tlv.specs.Packet.{good_first, total, complete, marked, cut_by, cut}
-use Rattle.tlv.specs.Slot.{end_from, last_pointer, sound}
-use Rattle.tlv.specs.Held.{end_within, end_beyond, held_total, held_end, continuation_of}
+use Rattle.std.specs.Prelude.{ℕ, ◌≡◌, List, [], ◌∷◌, ◌++◌, take, drop, replicate}
 use Rattle.intake.specs.declared.held.Held.{Held}
-use Rattle.intake.specs.Slot.{
-  searching,
-  holding,
-  cursor_from,
-  resumed_as,
-  moved_mem,
-  continued_mem,
-  resumed_mem,
-  copied,
-  resumed_of,
-  intake_of,
-}
+use Rattle.intake.specs.Slot.{searching, holding, intake_of}
 
 -- packet memory: 9 up to the slot's place, where the bytes of the slot before stand, and one byte more
 abbrev memory : List ℕ → List ℕ
@@ -62,8 +46,3 @@ Examples =
     -- and one that goes on
     × (after (holding 16385 3) (1 ∷ 0x7f ∷ 3 ∷ 0 ∷ []) (4 ∷ 6 ∷ []) 0xffff 0xffff
     ≡ record { note = 0; front = 0x7f ∷ 3 ∷ 0 ∷ 4 ∷ 6 ∷ 9 ∷ 9 ∷ []; slot = 4 ∷ 6 ∷ 3 ∷ 0 ∷ 8 ∷ [] })
-
-pub examples : Examples
-unfolding be good_first total complete marked cut_by cut end_from last_pointer sound end_within end_beyond held_total held_end continuation_of
-    part_of pasted cursor_from resumed_as moved_mem continued_mem resumed_mem copied resumed_of intake_of
-examples = (refl, refl, refl, refl, refl, refl)

@@ -1,5 +1,5 @@
 -- A slot in packet memory: what becomes of held bytes, what next then has to read, and packet memory byte for byte.
-use Rattle.std.specs.Prelude.{ℕ, ◌+◌, ◌≡◌, Bool, true, false, cond, List, length, drop, eqb}
+use Rattle.std.specs.Prelude.{ℕ, ◌+◌, Bool, true, false, cond, List, length, drop, eqb}
 use Rattle.wire.specs.Memory.{part_of, pasted}
 use Rattle.tmcc.specs.declared.layout.Pointers.{Pointers}
 use Rattle.tlv.specs.declared.held.Continuation.{Continuation}
@@ -101,35 +101,3 @@ intake_of h p d t = let r = settled_of h p d t in (r.0, copied r.1 d)
 -- "A lost slot makes it searching, with note 40 if it wasn't"
 unfoldable pub lost_of : Held → Intake
 lost_of h = record { held = searching; cursor = noted (cond h.on (number_of Lost) 0) }
-
--- Laws: an own live slot that is unsound, one while searching, and one with bytes held.
-module _ (h : Held) (p d : List ℕ) (t : Pointers) where
-  pub settled_unsound : sound d t.0 t.1 ≡ false
-      → settled_of h p d t ≡ (record { held = searching; cursor = noted (number_of Unsound) }, p)
-  settled_unsound s = rw s
-
-  module _ (s : sound d t.0 t.1 ≡ true) where
-    pub settled-searching : h.on ≡ false → settled_of h p d t ≡ (reading_from 0 0 t.0 (length d), p)
-    settled-searching o = rw (s, o)
-
-    pub settled-held : h.on ≡ true → settled_of h p d t ≡ resumed_of h p d t
-    settled-held o = rw (s, o)
-
-  pub taken_unsound : sound d t.0 t.1 ≡ false
-      → intake_of h p d t ≡ (record { held = searching; cursor = noted (number_of Unsound) }, copied p d)
-  unfolding intake_of
-  taken_unsound s = rw s
-
-  module _ (s : sound d t.0 t.1 ≡ true) where
-    pub taken-searching : h.on ≡ false → intake_of h p d t ≡ (reading_from 0 0 t.0 (length d), copied p d)
-    unfolding intake_of
-    taken-searching o = rw (s, o)
-
-    pub taken-held : h.on ≡ true → intake_of h p d t ≡ ((resumed_of h p d t).0, copied (resumed_of h p d t).1 d)
-    unfolding intake_of
-    taken-held o = rw (s, o)
-
-  pub resumed : (k : Continuation) → continuation_of (held_bytes h p) d t.0 t.1 ≡ k
-      → resumed_of h p d t ≡ resumed_by k h p d t
-  unfolding resumed_of
-  resumed k e = rw e

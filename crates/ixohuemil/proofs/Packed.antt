@@ -1,8 +1,9 @@
 -- Why the packer takes the record of a unit as next writes it.
 use mathlib.Core.Path.{◌∙◌, ap}
 use Rattle.reassembly.specs.declared.unit.Unit.{Unit}
-use Rattle.calls.specs.Record.{unit-taken, unit-read}
-use Rattle.ixohuemil.specs.Answers.{pack_call, pack_unit}
+use Rattle.calls.proofs.RecordLaws.{unit-taken, unit-read}
+use Rattle.ixohuemil.specs.Answers.{pack_call}
+use Rattle.ixohuemil.proofs.AnswersLaws.{pack_unit}
 use Rattle.ixohuemil.specs.Claims.{PackGiven}
 
 pub pack_given : PackGiven

@@ -16,7 +16,8 @@ use Rattle.cutter.specs.declared.slot.CutSlot.{CutSlot}
 use Rattle.cutter.specs.declared.slot.CutSlot.TheVariants.{Cut, Refused as NotCut}
 use Rattle.cutter.specs.Slot.{slot_cut}
 use Rattle.cutter.proofs.Refusals.{cut-refused}
-use Rattle.ixohuemil.specs.Answers.{pack_call, pack_unit, pack_other, pack_taken, pack_left, cut-taken, cut_left}
+use Rattle.ixohuemil.specs.Answers.{pack_call}
+use Rattle.ixohuemil.proofs.AnswersLaws.{pack_unit, pack_other, pack_taken, pack_left, cut-taken, cut_left}
 use Rattle.ixohuemil.specs.Claims.{PackRecordRefused, CutCallRefused, PackRecordTaken, CutCallTaken}
 
 pack_call-refused : (u : Unit) (cid sn m : ℕ) (s out : List ℕ) (len : ℕ) (n len' : ℕ) (out' : List ℕ)

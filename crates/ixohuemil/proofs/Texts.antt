@@ -6,11 +6,14 @@ use mathlib.Core.List.{List, [], ◌++◌, append-nil}
 use native.Mathlib.Omega.{arith}
 use borrow.Author.Tests.{leb-true, leb-false}
 use lib.ListN.{length, replicate, length-append, length-replicate}
-use Rattle.lines.specs.Text.{wrote, wrote-end, written-end, written-length, written-more}
-use Rattle.lines.specs.Line.{longest_line, end-67}
+use Rattle.lines.specs.Text.{wrote}
+use Rattle.lines.proofs.TextLaws.{wrote-end, written-end, written-length, written-more}
+use Rattle.lines.specs.Line.{longest_line}
+use Rattle.lines.proofs.LineLaws.{end-67}
 use Rattle.capture.specs.Command.{longest_command}
 use Rattle.capture.specs.Capture.{last_line, capture_of}
-use Rattle.capture.specs.Steps.{roomy, finish_full, finish_line}
+use Rattle.capture.specs.Steps.{roomy}
+use Rattle.capture.proofs.StepsLaws.{finish_full, finish_line}
 use Rattle.feeding.specs.Feed.{FeedLeaves}
 use Rattle.feeding.specs.Plays.{fed, first, AtOnce}
 use Rattle.feeding.proofs.Whole.{whole_claim}

@@ -28,11 +28,3 @@ pub record TextBegins (lines out : List ℕ) (r : ℕ) (o : List ℕ) : Type 0 w
   pub within : r ≤ length out
   -- none are left where a longest line has room behind them
   pub all : r + longest_line ≤ length out → rest ≡ []
-
--- Laws.
-
-pub text-call : (b p c out : List ℕ) (f : FeedLeaves) → f ≡ fed_of fresh_session 0 (replicate longest_command 0) b p c out
-    → (n : ℕ) (o : List ℕ) → (n, o) ≡ finished_of f.0.session.tally f.4 f.0.written
-    → (n, f.2, f.3, o) ≡ text_call b p c out
-unfolding text_call
-text-call b p c out f e n o w = rw (← e, ← w)

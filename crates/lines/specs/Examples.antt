@@ -1,10 +1,9 @@
 -- Examples of lines, computed: each number in its place, and which notes have an id.
-use Rattle.std.specs.Prelude.{◌≡◌, refl, [], ◌∷◌}
+use Rattle.std.specs.Prelude.{◌≡◌, [], ◌∷◌}
 use Rattle.mmtp.specs.Unit.{no_fields}
 use Rattle.queue.specs.declared.event.Given.{Given}
 use Rattle.queue.specs.declared.event.Memory.TheVariants.{Collecting}
-use Rattle.lines.specs.Decimal.{digits, decimal}
-use Rattle.lines.specs.Line.{field, place_text, carried_text, unit_line, id_text, note_line, refused_line, end_line}
+use Rattle.lines.specs.Line.{unit_line, note_line, refused_line, end_line}
 
 -- packet_id 9, kind 2, psn 7, MPU number 5, and 3 bytes from byte 1 of collecting memory on
 abbrev given : Given
@@ -25,7 +24,3 @@ Examples =
     × (refused_line 22 ≡ 114 ∷ 101 ∷ 102 ∷ 117 ∷ 115 ∷ 101 ∷ 100 ∷ 32 ∷ 50 ∷ 50 ∷ 10 ∷ [])
     -- four frames, three units, two notes: "end 4 3 2"
     × (end_line 4 3 2 ≡ 101 ∷ 110 ∷ 100 ∷ 32 ∷ 52 ∷ 32 ∷ 51 ∷ 32 ∷ 50 ∷ 10 ∷ [])
-
-pub examples : Examples
-unfolding digits decimal field place_text carried_text unit_line id_text note_line refused_line end_line
-examples = (refl, refl, refl, refl, refl)

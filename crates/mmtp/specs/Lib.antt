@@ -1,9 +1,7 @@
 -- The definitions of packets, their laws, and the specimens.
-pub mod Cases
 pub mod Notes
 pub mod Flow
 pub mod Header
-pub mod Take
 pub mod Unit
 pub mod Payload
 pub mod PayloadSpecimens

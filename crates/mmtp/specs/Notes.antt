@@ -1,5 +1,5 @@
 -- The notes on packets: document 01's number for each. Every definition that gives such a note cites this one.
-use Rattle.std.specs.Prelude.{ℕ, ◌≡◌, refl, false, eqb}
+use Rattle.std.specs.Prelude.{ℕ}
 use Rattle.mmtp.specs.declared.note.PacketNote.{PacketNote}
 use Rattle.mmtp.specs.declared.note.PacketNote.TheVariants.{BadFlow, BadHeader, BadPayload}
 
@@ -7,9 +7,3 @@ abbrev pub number_of : PacketNote → ℕ
 number_of BadFlow = 50
 number_of BadHeader = 51
 number_of BadPayload = 52
-
--- none of them is 0, which says that there is no note
-pub not_none : (n : PacketNote) → eqb (number_of n) 0 ≡ false
-not_none BadFlow = refl
-not_none BadHeader = refl
-not_none BadPayload = refl

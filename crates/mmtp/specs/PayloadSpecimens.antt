@@ -1,17 +1,14 @@
 -- The starred payloads of document 01, and small ones of our own, computed.
-use Rattle.std.specs.Prelude.{ℕ, ◌≡◌, refl, Bool, true, false, List, [], ◌∷◌, replicate}
-use Rattle.wire.specs.Field.{be}
+use Rattle.std.specs.Prelude.{ℕ, ◌≡◌, Bool, true, false, List, [], ◌∷◌, replicate}
 use Rattle.mmtp.specs.declared.payload.Indicator.{Indicator}
 use Rattle.mmtp.specs.declared.payload.Indicator.TheVariants.{Whole, First, Middle}
 use Rattle.mmtp.specs.declared.payload.Payload.{Payload}
 use Rattle.mmtp.specs.declared.payload.PayloadRead.TheVariants.{Good}
-use Rattle.mmtp.specs.Unit.{Piece, no_fields, field_bytes, fields_of, piece_of, length_bytes, unit_fits, single_fits}
-use Rattle.mmtp.specs.Unit.{unit_then, aggregate_by, aggregate, aggregate_fits}
-use Rattle.mmtp.specs.Payload.{indicator_of, fragment_type_of, mpu_of, signalling_of, parsed_of, counter_fits}
-use Rattle.mmtp.specs.Payload.{aggregation_fits, units_fit, tested, payload_of, pieces_of}
-use Rattle.mmtp.specs.Header.{header_of, plain, payload_start, fixed_bytes, extension_bytes, extension_length}
-use Rattle.watch.specs.Given.{lookup_of, first_from}
-use Rattle.mmtp.specs.Packet.{body_read, looked_up, head_read, reading_of, note_of}
+use Rattle.mmtp.specs.Unit.{Piece, no_fields}
+use Rattle.mmtp.specs.Unit.{aggregate}
+use Rattle.mmtp.specs.Payload.{payload_of, pieces_of}
+use Rattle.watch.specs.Given.{lookup_of}
+use Rattle.mmtp.specs.Packet.{reading_of, note_of}
 
 -- an MPU payload: 16-bit length, its third byte, counter, MPU sequence number 9, and what follows
 abbrev mpu_bytes : ℕ → ℕ → ℕ → List ℕ → List ℕ
@@ -29,11 +26,6 @@ PayloadSpecimens =
     ≡ Good (record { kind = 2; indicator = First; counter = 1; mpu = 9; aggregated = false; wide = false; start = 8 }))
     -- "0x2B: 52", though its one unit is whole
     × (note 0 (mpu_bytes 22 0x2B 1 (0 ∷ 14 ∷ replicate 14 0)) ≡ 52)
-
-pub payload_specimens : PayloadSpecimens
-unfolding payload_of tested parsed_of mpu_of be fragment_type_of counter_fits indicator_of aggregation_fits units_fit single_fits field_bytes
-    header_of plain payload_start fixed_bytes extension_bytes extension_length lookup_of first_from body_read looked_up head_read reading_of
-payload_specimens = (refl, refl)
 
 -- a signalling payload with this FI and this H, counter 0, without A
 abbrev signalled : Indicator → Bool → Payload
@@ -77,10 +69,3 @@ Examples =
     × (payload_of (0x80 ∷ 0 ∷ []) 0 2 ≡ Good (signalled Middle false))
     × (note 2 (0xC0 ∷ 1 ∷ []) ≡ 52)
     × (note 2 (0xC0 ∷ 255 ∷ []) ≡ 52)
-
-pub examples : Examples
-unfolding payload_of pieces_of tested parsed_of mpu_of signalling_of be fragment_type_of counter_fits indicator_of aggregation_fits units_fit
-    single_fits field_bytes fields_of piece_of length_bytes unit_fits unit_then aggregate_by aggregate aggregate_fits
-    header_of plain payload_start fixed_bytes extension_bytes extension_length lookup_of first_from body_read looked_up head_read reading_of
-examples =
-    (refl, refl, refl, refl, refl, refl, refl, refl, refl, refl, refl, refl, refl, refl, refl, refl, refl, refl, refl, refl, refl)

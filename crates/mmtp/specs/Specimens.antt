@@ -1,18 +1,15 @@
 -- Document 01's starred rows on MMTP headers, and examples of the order of the tests.
-use Rattle.std.specs.Prelude.{ℕ, List, [], ◌∷◌, ◌++◌, ◌≡◌, refl, replicate}
+use Rattle.std.specs.Prelude.{ℕ, List, [], ◌∷◌, ◌++◌, ◌≡◌, replicate}
 use Rattle.mmtp.specs.declared.flow.Flow.TheVariants.{Silent, Mmtp}
 use Rattle.mmtp.specs.declared.header.HeaderRead.TheVariants.{Good}
 use Rattle.mmtp.specs.declared.packet.Reading.TheVariants.{Silent as Unwatched, Noted}
 use Rattle.mmtp.specs.declared.note.PacketNote.TheVariants.{BadPayload}
 use Rattle.watch.specs.declared.given.Found.{Found}
-use Rattle.wire.specs.Field.{be}
-use Rattle.mmtp.specs.Flow.{flow_of, compressed_of, behind, compressed_header}
+use Rattle.mmtp.specs.Flow.{flow_of}
 use Rattle.mmtp.specs.Flow as flow
-use Rattle.mmtp.specs.Header.{header_of, plain, payload_start, fixed_bytes, extension_bytes, extension_length}
-use Rattle.watch.specs.Given.{lookup_of, first_from}
-use Rattle.mmtp.specs.Unit.{aggregate_fits, aggregate_by, aggregate}
-use Rattle.mmtp.specs.Payload.{payload_of, tested, parsed_of, signalling_of, counter_fits, indicator_of, aggregation_fits, units_fit}
-use Rattle.mmtp.specs.Packet.{reading_of, head_read, looked_up, body_read, note_of}
+use Rattle.mmtp.specs.Header.{header_of}
+use Rattle.watch.specs.Given.{lookup_of}
+use Rattle.mmtp.specs.Packet.{reading_of, note_of}
 
 -- a signalling packet with the first byte x: payload type 2, packet_id 0x1234, timestamp 0x01020304, psn 7, then `rest`
 abbrev pub packet : ℕ → List ℕ → List ℕ
@@ -37,10 +34,6 @@ HeaderSpecimens =
     ≡ Good (record { payload_type = 2; packet_id = 0x1234; psn = record { 0 = 7 }; start = 24 }))
     -- "0x40: 51."
     × (note_of (reading_of (packet 0x40 message) (watching 0x1234)) ≡ 51)
-
-pub header-specimens : HeaderSpecimens
-unfolding header_of plain payload_start fixed_bytes extension_bytes extension_length be reading_of head_read looked_up lookup_of first_from
-header-specimens = (refl, refl)
 
 -- a TLV packet of type 3 with SN 9: CID 2, header type, and nothing behind it
 abbrev pub compressed : ℕ → List ℕ
@@ -69,9 +62,3 @@ Examples =
     × (reading_of (packet 0x00 message) (watching 0x1235) ≡ Unwatched)
     -- 52 has the packet_id: A without a unit
     × (reading_of (packet 0x00 (1 ∷ 0 ∷ [])) (watching 0x1234) ≡ Noted BadPayload 0x1234)
-
-pub examples : Examples
-unfolding flow_of compressed_of behind compressed_header be header_of plain payload_start fixed_bytes extension_bytes extension_length
-    reading_of head_read looked_up lookup_of first_from body_read payload_of tested parsed_of signalling_of counter_fits indicator_of
-    aggregation_fits units_fit aggregate_fits aggregate_by aggregate
-examples = (refl, refl, refl, refl, refl, refl, refl, refl, refl, refl, refl, refl, refl, refl)

@@ -8,3 +8,4 @@ pub mod Most
 pub mod Wholes
 pub mod PacketReads
 pub mod Rejoins
+pub mod ExamplesLaws

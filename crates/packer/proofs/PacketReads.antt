@@ -2,7 +2,8 @@
 use Rattle.std.proofs.Common.{◌≡◌, ℕ, zero, suc, ◌+◌, ◌-◌, ◌*◌, ◌%◌, ◌^◌, ◌<◌, ◌≤◌, Bool, true, false, cond, eqb, List, [], ◌∷◌, ◌++◌, length, get_or, drop, sym, refl, ◌∙◌, mod-lt, arith, get_or-drop, drop-drop, drop_at, eq-eqb, ne_eqb, eqb-true, le-leb}
 use borrow.Author.Tests.{eqb-false}
 use Rattle.wire.specs.Bits.{bits_at}
-use Rattle.wire.specs.Field.{be, bytes_of, be-drop}
+use Rattle.wire.specs.Field.{be, bytes_of}
+use Rattle.wire.proofs.FieldLaws.{be-drop}
 use Rattle.mmtp.specs.declared.flow.Flow.TheVariants.{Mmtp}
 use Rattle.mmtp.specs.declared.flow.Compressed.TheVariants.{Start}
 use Rattle.mmtp.specs.declared.header.Header.{Header}
@@ -12,12 +13,17 @@ use Rattle.mmtp.specs.declared.payload.Indicator.TheVariants.{Whole, First, Midd
 use Rattle.mmtp.specs.declared.payload.FragmentType.TheVariants.{Kind}
 use Rattle.mmtp.specs.declared.payload.PayloadRead.TheVariants.{Malformed as BadBody, Good as GoodBody}
 use Rattle.mmtp.specs.declared.unit.Fields.{Fields}
-use Rattle.mmtp.specs.Flow.{flow_of, compressed_header, type-3, own-cid, behind-whole}
-use Rattle.mmtp.specs.Header.{first, plain, fixed_bytes, extension_bytes, payload_start, header_of, header-good, plain-good}
+use Rattle.mmtp.specs.Flow.{flow_of, compressed_header}
+use Rattle.mmtp.proofs.FlowLaws.{type-3, own-cid, behind-whole}
+use Rattle.mmtp.specs.Header.{first, plain, fixed_bytes, extension_bytes, payload_start, header_of}
+use Rattle.mmtp.proofs.HeaderLaws.{header-good, plain-good}
 use Rattle.mmtp.specs.Payload.{indicator_of, fragment_type_of, flag, counter_fits, aggregation_fits}
-use Rattle.mmtp.specs.Payload.{signalling_of, signalling_by, mpu_of, mpu-by, parsed_of, payload_of, payload_good}
-use Rattle.mmtp.specs.Payload.{units_single, pieces_of, pieces_single}
-use Rattle.mmtp.specs.Packet.{body_read, watched}
+use Rattle.mmtp.specs.Payload.{signalling_of, mpu_of, parsed_of, payload_of}
+use Rattle.mmtp.proofs.PayloadLaws.{signalling_by, mpu-by, payload_good}
+use Rattle.mmtp.specs.Payload.{pieces_of}
+use Rattle.mmtp.proofs.PayloadLaws.{units_single, pieces_single}
+use Rattle.mmtp.specs.Packet.{body_read}
+use Rattle.mmtp.proofs.PacketLaws.{watched}
 use Rattle.watch.specs.declared.given.Watch.{Watch}
 use Rattle.watch.specs.declared.given.Found.TheVariants.{At}
 use Rattle.watch.specs.Given.{lookup_of}

@@ -1,7 +1,7 @@
 -- A unit's pieces: together they are the unit, and how many, how long and where they are.
 use Rattle.std.proofs.Common.{◌≡◌, ℕ, zero, suc, ◌-◌, ◌*◌, ◌<◌, ◌≤◌, Bool, true, false, cond, leb, List, [], ◌∷◌, length, get_or, take, drop, sym, refl, ap, append-nil, suc-mul, add_comm, zero-mul, mul-one, mul-suc, arith, length-drop, take-append-drop, length-take, take_all, drop-drop, le-leb, leb-false, leb-true}
 use borrow.Author.Tests.{lt-leb}
-use Rattle.wire.specs.Choice.{either}
+use Rattle.wire.proofs.Choice.{either}
 use Rattle.packer.specs.Pieces.{pieces_by, pieces, count_by, count_of}
 use Rattle.packer.specs.Packer.{joined}
 

@@ -2,7 +2,7 @@
 use Rattle.std.proofs.Common.{◌≡◌, ℕ, ◌+◌, ◌*◌, ◌<◌, ◌≤◌, Bool, true, false, cond, eqb, ltb, List, length, take, sym, refl, ap, mul-le-mul, arith, le-ltb, lt-ltb, eq-eqb, ne_eqb}
 use borrow.Author.Tests.{eqb-false}
 use lib.Seq.{take-length, take-append_seam}
-use Rattle.wire.specs.Choice.{either}
+use Rattle.wire.proofs.Choice.{either}
 use Rattle.wire.specs.Memory.{pasted}
 use Rattle.reassembly.specs.declared.unit.Unit.{Unit}
 use Rattle.packer.specs.declared.pack.Packed.{Packed}

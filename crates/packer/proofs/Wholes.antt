@@ -1,8 +1,9 @@
 -- A packet is a whole TLV packet: its length field is the length of what follows.
 use Rattle.std.proofs.Common.{◌≡◌, ℕ, ◌+◌, ◌*◌, ◌^◌, ◌<◌, ◌≤◌, true, List, [], ◌∷◌, ◌++◌, length, take, drop, sym, refl, ap, ◌∙◌, add-zero, mod-eq_of_lt, arith, drop_of_length-le, take_all, drop_at, le-leb}
-use Rattle.wire.specs.Field.{be, bytes_of, be-drop, be-bytes}
+use Rattle.wire.specs.Field.{be, bytes_of}
+use Rattle.wire.proofs.FieldLaws.{be-drop, be-bytes}
 use Rattle.tlv.specs.Packet.{good_first, total, marked, complete, cut}
-use Rattle.tlv.specs.Cuts.{cut-nil, cut-more, cut-append}
+use Rattle.tlv.proofs.CutsLaws.{cut-nil, cut-more, cut-append}
 use Rattle.reassembly.specs.declared.join.Piece.{Piece}
 use Rattle.packer.specs.Packet.{outer_head, mmtp_of, packet_of}
 use Rattle.packer.specs.Packer.{joined}

@@ -1,6 +1,7 @@
 -- Bytes put into a memory, list behind list.
 use Rattle.std.proofs.Common.{◌≡◌, ℕ, ◌+◌, ◌<◌, ◌≤◌, List, [], ◌∷◌, ◌++◌, length, set, sym, ap, ◌∙◌, add-zero, arith, length-append}
-use Rattle.wire.specs.Memory.{pasted, pasted-zero, pasted-one, pasted-append}
+use Rattle.wire.specs.Memory.{pasted}
+use Rattle.wire.proofs.MemoryLaws.{pasted-zero, pasted-one, pasted-append}
 
 -- one byte
 pub put_one : (d : List ℕ) (at v : ℕ) → at < length d → set d at v ≡ pasted d at (v ∷ []) 1

@@ -1,14 +1,10 @@
 -- Units packed, computed.
-use Rattle.std.specs.Prelude.{◌≡◌, ℕ, ◌*◌, List, [], ◌∷◌, length, take, drop, replicate, refl}
-use Rattle.wire.specs.Field.{bytes_of}
-use Rattle.wire.specs.Memory.{pasted}
+use Rattle.std.specs.Prelude.{◌≡◌, ℕ, ◌*◌, List, [], ◌∷◌, length, take, drop, replicate}
 use Rattle.mmtp.specs.declared.unit.Fields.{Fields}
 use Rattle.reassembly.specs.declared.unit.Unit.{Unit}
 use Rattle.packer.specs.declared.pack.Packed.TheVariants.{Written, Refused}
-use Rattle.packer.specs.Pieces.{pieces_by, pieces, count_by, max_pieces, indicator_at, counter_at, with_psn, piece_at}
-use Rattle.packer.specs.Packet.{outer_head, payload_type_of, mmtp_head, indicator_bits, fragment_bits, mpu_head}
-use Rattle.packer.specs.Packet.{signalling_head, payload_head, timed_fields, fields_written, data_unit, mmtp_of, packet_of}
-use Rattle.packer.specs.Packer.{packet_at, packets_from, packets, joined, run, pack_refusal, packed, pack_of}
+use Rattle.packer.specs.Pieces.{pieces, count_by, max_pieces}
+use Rattle.packer.specs.Packer.{packets, run, pack_refusal, pack_of}
 
 abbrev fields : Fields
 fields =
@@ -90,12 +86,6 @@ Examples =
     × (run (unit 0 6) 5 9 4 (7 ∷ []) ≡ head 24 0x59 (psn-6 (mpu 7 0x00 0 (7 ∷ []))))
     × (run (unit 1 6) 5 9 4 (7 ∷ []) ≡ head 24 0x59 (psn-6 (mpu 7 0x10 0 (7 ∷ []))))
 
-pub examples : Examples
-unfolding bytes_of pasted pieces_by pieces indicator_at counter_at with_psn piece_at outer_head payload_type_of mmtp_head indicator_bits
-    fragment_bits mpu_head signalling_head payload_head timed_fields fields_written data_unit mmtp_of packet_of packet_at packets_from
-    packets joined run pack_refusal packed pack_of count_by
-examples = (refl, refl, refl, refl, refl, refl, refl, refl, refl, refl, refl, refl, refl, refl, refl, refl)
-
 -- a refused call, and the output as it was
 abbrev Refuses : ℕ → Unit → ℕ → ℕ → List ℕ → List ℕ → Type 0
 Refuses n u cid m s out = pack_of u cid 0 m s out ≡ (Refused n, out)
@@ -108,12 +98,6 @@ Refusals =
     × Refuses 73 (unit 4 0) 4096 1400 (1 ∷ 2 ∷ []) (replicate 22 0xEE)
     -- and here is no other reason
     × Refuses 71 (unit 5 0) 5 1 [] (replicate 40 0xEE) × Refuses 74 (unit 4 0) 4096 1400 (1 ∷ 2 ∷ []) (replicate 23 0xEE)
-
-pub refusals : Refusals
-unfolding bytes_of pasted pieces_by pieces indicator_at counter_at with_psn piece_at outer_head payload_type_of mmtp_head indicator_bits
-    fragment_bits mpu_head signalling_head payload_head timed_fields fields_written data_unit mmtp_of packet_of packet_at packets_from
-    packets joined run pack_refusal packed pack_of
-refusals = (refl, refl, refl, refl, refl, refl, refl, refl)
 
 -- "72 is given above 65,535 pieces" (document 02, item 4), here of one byte each, whatever the output holds
 pub record MostPieces : Type 0 where

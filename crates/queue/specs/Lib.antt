@@ -3,4 +3,3 @@ pub mod Located
 pub mod Waiting
 pub mod Queue
 pub mod Words
-pub mod Taking

@@ -8,7 +8,8 @@ use Rattle.reassembly.specs.declared.config.Rules.{Rules}
 use Rattle.reassembly.specs.declared.channel.Phase.{Phase}
 use Rattle.reassembly.specs.declared.channel.Phase.TheVariants.{Unheard, Waiting, Idle, Open}
 use Rattle.reassembly.specs.declared.channel.Channel.{Channel}
-use Rattle.wire.specs.Lists.{all, all-last, not-all-last, not-all-before}
+use Rattle.wire.specs.Lists.{all}
+use Rattle.wire.proofs.ListsLaws.{all-last, not-all-last, not-all-before}
 use Rattle.reassembly.specs.Channel.{next_psn, heard, gap}
 use Rattle.reassembly.specs.Join.{begun, followed, interrupted, notes_of}
 use Rattle.reassembly.specs.Run.{Content, Input, Lane, Stepped, labelled, step, units, Clean}

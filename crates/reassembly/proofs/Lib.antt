@@ -5,3 +5,7 @@ pub mod Sent
 pub mod Beside
 pub mod Loss
 pub mod Runs
+pub mod HoleLaws
+pub mod JoinLaws
+pub mod LostLaws
+pub mod SpecimensLaws

@@ -1,6 +1,7 @@
 -- Lost packets take away exactly the units that one of them carries: of one packet_id, and of all.
 use Rattle.std.proofs.Common.{◌≡◌, ℕ, suc, ◌+◌, ◌<◌, ◌≤◌, Bool, true, false, cond, eqb, List, [], ◌∷◌, ◌++◌, length, refl, ap, ◌∙◌, arith, eqb-true}
-use Rattle.wire.specs.Lists.{put, all, sift-append}
+use Rattle.wire.specs.Lists.{put, all}
+use Rattle.wire.proofs.ListsLaws.{sift-append}
 use Rattle.reassembly.specs.declared.config.Rules.{Rules}
 use Rattle.reassembly.specs.Channel.{unheard}
 use Rattle.reassembly.specs.Run.{Input, Labelled, Event, Lane, Stepped, fresh, step, with_lane, run, run_lane}

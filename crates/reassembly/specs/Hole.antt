@@ -1,12 +1,10 @@
 -- A unit of more than 257 pieces of which exactly 256 are lost, computed: the counters fit across the hole, the psn alone tells it, and
 -- the unit is absent.
-use Rattle.std.specs.Prelude.{◌≡◌, ℕ, zero, suc, ◌+◌, ◌-◌, ◌%◌, Bool, true, cond, not, ◌&&◌, List, [], ◌∷◌, ◌++◌, map, ◌==◌, nat_le, nat_lt, refl}
+use Rattle.std.specs.Prelude.{◌≡◌, ℕ, zero, suc, ◌+◌, ◌-◌, ◌%◌, Bool, true, cond, not, ◌&&◌, List, [], ◌∷◌, ◌++◌, map, ◌==◌, nat_le, nat_lt}
 use Rattle.mmtp.specs.declared.payload.Indicator.TheVariants.{Whole, First, Middle, Last}
-use Rattle.reassembly.specs.Unit.{agrees}
-use Rattle.reassembly.specs.Channel.{next_psn, heard, gap, unheard}
-use Rattle.reassembly.specs.Join.{interrupted, begun, counter_follows, grown, extended, followed, acted, join_of, notes_of}
-use Rattle.reassembly.specs.Run.{Input, Labelled, Event, note, unit, fresh, step, run}
-use Rattle.reassembly.specs.Sent.{open_unit, sent_after, sent}
+use Rattle.reassembly.specs.Join.{counter_follows}
+use Rattle.reassembly.specs.Run.{Input, Labelled, Event, note, unit, fresh, run}
+use Rattle.reassembly.specs.Sent.{sent}
 use Rattle.reassembly.specs.Claims.{received, unharmed}
 use Rattle.reassembly.specs.Lost.{info, packet}
 
@@ -58,11 +56,3 @@ Examples =
     Absent 258 1
     -- the hole is between middle pieces
     × Absent 300 10
-
-pub examples : Examples
-unfolding next_psn heard gap unheard agrees interrupted begun counter_follows grown extended followed acted join_of notes_of step run
-    open_unit sent_after sent
-examples = (
-  record { comes = refl; fits = refl; absent = refl; left = refl },
-  record { comes = refl; fits = refl; absent = refl; left = refl },
-)

@@ -1,6 +1,5 @@
 -- Joining: steps (a), (b) and (c) for one packet of a watched packet_id.
-use Rattle.std.specs.Prelude.{◌≡◌, ℕ, ◌+◌, ◌%◌, ◌<◌, ◌≤◌, Bool, true, false, cond, ◌&&◌, List, [], ◌∷◌, ◌++◌, ◌==◌, nat_lt}
-use borrow.Author.Tests.{lt-ltb, le-ltb}
+use Rattle.std.specs.Prelude.{ℕ, ◌+◌, ◌%◌, Bool, true, false, cond, ◌&&◌, List, [], ◌∷◌, ◌++◌, ◌==◌, nat_lt}
 use Rattle.mmtp.specs.declared.header.Psn.{Psn}
 use Rattle.mmtp.specs.declared.payload.Indicator.{Indicator}
 use Rattle.mmtp.specs.declared.payload.Indicator.TheVariants.{Whole, First, Middle, Last}
@@ -67,26 +66,6 @@ extended ch p rules last =
     cond (agrees ch.current.unit p.unit && counter_follows ch.current.counter p.counter)
     (cond (nat_lt rules.limit (ch.current.len + p.len)) (kept ch Waiting 0 true) (grown ch p last))
     (kept ch Waiting (number_of Apart) false)
-
-module _ (ch : Channel) (p : Piece) (rules : Rules) (last : Bool) where
-  pub extended-apart : agrees ch.current.unit p.unit ≡ false → extended ch p rules last ≡ kept ch Waiting (number_of Apart) false
-  unfolding extended
-  extended-apart a = rw a
-
-  pub extended_uncounted : agrees ch.current.unit p.unit ≡ true → counter_follows ch.current.counter p.counter ≡ false
-      → extended ch p rules last ≡ kept ch Waiting (number_of Apart) false
-  unfolding extended
-  extended_uncounted a c = rw (a, c)
-
-  pub extended-over : agrees ch.current.unit p.unit ≡ true → counter_follows ch.current.counter p.counter ≡ true
-      → rules.limit < ch.current.len + p.len → extended ch p rules last ≡ kept ch Waiting 0 true
-  unfolding extended
-  extended-over a c h = rw (a, c, lt-ltb _ _ h)
-
-  pub extended-on : agrees ch.current.unit p.unit ≡ true → counter_follows ch.current.counter p.counter ≡ true
-      → ch.current.len + p.len ≤ rules.limit → extended ch p rules last ≡ grown ch p last
-  unfolding extended
-  extended-on a c h = rw (a, c, le-ltb _ _ h)
 
 -- FI 10 or 11 by the phase; "while idle: 62, now waiting; otherwise silent, now waiting"
 abbrev pub followed_in : Phase → Channel → Piece → Rules → Bool → Joined

@@ -1,13 +1,10 @@
 -- An example of lost packets, computed: two packet_ids, a unit of three pieces of which the second is empty, and whole units.
-use Rattle.std.specs.Prelude.{◌≡◌, ℕ, Bool, not, List, [], ◌∷◌, length, ◌==◌, refl}
+use Rattle.std.specs.Prelude.{◌≡◌, ℕ, Bool, not, List, [], ◌∷◌, length, ◌==◌}
 use Rattle.mmtp.specs.declared.payload.Indicator.{Indicator}
 use Rattle.mmtp.specs.declared.payload.Indicator.TheVariants.{Whole, First, Middle, Last}
 use Rattle.reassembly.specs.declared.unit.Unit.{Unit as UnitInfo}
-use Rattle.reassembly.specs.Unit.{agrees}
-use Rattle.reassembly.specs.Channel.{next_psn, heard, gap, unheard}
-use Rattle.reassembly.specs.Join.{interrupted, begun, counter_follows, grown, extended, followed, acted, join_of, notes_of}
-use Rattle.reassembly.specs.Run.{Input, Labelled, note, unit, fresh, step, run}
-use Rattle.reassembly.specs.Sent.{open_unit, sent_after, sent}
+use Rattle.reassembly.specs.Run.{Input, Labelled, note, unit, fresh, run}
+use Rattle.reassembly.specs.Sent.{sent}
 use Rattle.reassembly.specs.Claims.{received, unharmed}
 
 abbrev pub info : ℕ → ℕ → UnitInfo
@@ -62,8 +59,3 @@ Examples =
     -- a packet of the other packet_id lost: the open unit goes on
     × (run (record { limit = 100 }) (λ k. fresh) (received (without 2) packets) ≡ unit joined ∷ unit (whole 5 8 21) ∷ [])
     × (unharmed (without 2) (sent packets) ≡ joined ∷ whole 5 8 21 ∷ [])
-
-pub examples : Examples
-unfolding next_psn heard gap unheard agrees interrupted begun counter_follows grown extended followed acted join_of notes_of step run
-    open_unit sent_after sent
-examples = (refl, refl, refl, refl, refl, refl, refl)

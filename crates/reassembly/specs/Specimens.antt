@@ -1,5 +1,5 @@
 -- Document 01's starred specimens of Joining, and further examples, computed over the definitions.
-use Rattle.std.specs.Prelude.{◌≡◌, ℕ, List, [], ◌∷◌, refl}
+use Rattle.std.specs.Prelude.{◌≡◌, ℕ, List, [], ◌∷◌}
 use Rattle.mmtp.specs.declared.payload.Indicator.{Indicator}
 use Rattle.mmtp.specs.declared.payload.Indicator.TheVariants.{Whole, First, Middle, Last}
 use Rattle.reassembly.specs.declared.config.Rules.{Rules}
@@ -7,9 +7,8 @@ use Rattle.reassembly.specs.declared.channel.Channel.{Channel}
 use Rattle.reassembly.specs.declared.join.Piece.{Piece}
 use Rattle.reassembly.specs.declared.join.Action.{Action}
 use Rattle.reassembly.specs.declared.join.Action.TheVariants.{Nothing, Whole as GiveWhole, Store, Complete}
-use Rattle.reassembly.specs.Unit.{agrees}
-use Rattle.reassembly.specs.Channel.{next_psn, heard, gap, unheard}
-use Rattle.reassembly.specs.Join.{interrupted, begun, counter_follows, grown, extended, followed, acted, join_of, notes_of}
+use Rattle.reassembly.specs.Channel.{next_psn, unheard}
+use Rattle.reassembly.specs.Join.{join_of, notes_of}
 
 -- a signalling piece of ten bytes, with a number where the kind has none
 abbrev pub piece_of : ℕ → ℕ → Indicator → ℕ → Piece
@@ -61,10 +60,6 @@ Specimens =
     -- "5, 6, 8: 60, none"
     × (seen (up_to 100) unheard (piece 5 First 2 ∷ piece 6 Middle 1 ∷ piece 8 Last 0 ∷ [])
     ≡ quiet (Store 0) ∷ quiet (Store 10) ∷ noted 60 ∷ [])
-
-pub specimens : Specimens
-unfolding next_psn heard gap unheard agrees interrupted begun counter_follows grown extended followed acted join_of notes_of seen
-specimens = (refl, refl, refl)
 
 -- the piece, of this kind, movie fragment, sample and item
 abbrev with-fields : ℕ → ℕ → ℕ → ℕ → Piece → Piece
@@ -128,8 +123,3 @@ Examples =
     -- a packet with two notes: 60 or 61, then 64
     × (seen (up_to 9) unheard (piece 5 Whole 0 ∷ piece 7 First 1 ∷ []) ≡ quiet GiveWhole ∷ record { notes = 60 ∷ 64 ∷ []; action = Nothing } ∷ [])
     × (notes_of (join_of open_unit_lem (piece 6 First 1) (up_to 9)) ≡ 61 ∷ 64 ∷ [])
-
-pub examples : Examples
-unfolding next_psn heard gap unheard agrees interrupted begun counter_follows grown extended followed acted join_of notes_of seen
-examples =
-    (refl, refl, refl, refl, refl, refl, refl, refl, refl, refl, refl, refl, refl, refl, refl, refl, refl, refl, refl)

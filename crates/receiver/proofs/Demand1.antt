@@ -4,10 +4,10 @@ use mathlib.Core.Path.{◌≡◌, refl}
 use mathlib.Core.Bool.{true}
 use mathlib.Core.List.{List}
 use lib.ListN.{length}
-use Rattle.wire.specs.Memory.{part-inside, part-outside}
+use Rattle.wire.proofs.MemoryLaws.{part-inside, part-outside}
 use Rattle.queue.specs.declared.event.Event.{Event}
 use Rattle.queue.specs.declared.event.Event.TheVariants.{Nothing, Refused}
-use Rattle.wire.specs.Choice.{by_test}
+use Rattle.wire.proofs.Choice.{by_test}
 use Rattle.delivery.specs.Cursor.{left}
 use Rattle.state.specs.State.{State}
 use Rattle.state.proofs.Refused.{start-kept}

@@ -8,8 +8,9 @@ use lib.Dec.{eqb}
 use lib.ListN.{length, get_or, drop, length-drop}
 use lib.Seq.{length-take-le}
 use borrow.Author.Tests.{eqb-true, eqb-false}
-use Rattle.wire.specs.Choice.{either}
-use Rattle.wire.specs.Memory.{part_of, part-inside, part-within, part_length}
+use Rattle.wire.proofs.Choice.{either}
+use Rattle.wire.specs.Memory.{part_of}
+use Rattle.wire.proofs.MemoryLaws.{part-inside, part-within, part_length}
 use Rattle.mmtp.specs.declared.unit.DataUnit.{DataUnit}
 use Rattle.mmtp.specs.declared.unit.Step.{Step}
 use Rattle.mmtp.specs.declared.unit.Step.TheVariants.{Unit as UnitAt, Malformed, End}
@@ -29,20 +30,26 @@ use Rattle.delivery.specs.declared.cursor.Found.TheVariants.{Event, Packet, Tail
 use Rattle.delivery.specs.declared.cursor.Advanced.{Advanced}
 use Rattle.queue.specs.Located.{whole_given, unit_len}
 use Rattle.delivery.specs.Packet.{wholes_of, give_of, unit_in, bytes_at, base_of, step_of, piece_from, joined_of, arrived_at}
-use Rattle.mmtp.specs.Unit.{Inside, unit-inside}
-use Rattle.delivery.specs.Within.{first-inside, Below, joined-below, arrived-fits, length-joined}
-use Rattle.queue.specs.Queue.{event_taken, next_unit, taken-note, taken-over, taken-nothing, taken-one, taken_many}
+use Rattle.mmtp.specs.Unit.{Inside}
+use Rattle.mmtp.proofs.UnitLaws.{unit-inside}
+use Rattle.delivery.specs.Within.{Below}
+use Rattle.delivery.proofs.WithinLaws.{first-inside, joined-below, arrived-fits, length-joined}
+use Rattle.queue.specs.Queue.{event_taken, next_unit}
+use Rattle.queue.proofs.QueueLaws.{taken-note, taken-over, taken-nothing, taken-one, taken_many}
 use Rattle.tlv.specs.declared.packet.Next.{Next}
 use Rattle.tlv.specs.declared.packet.Next.TheVariants.{Packet as PacketTo, Tail as TailAt}
 use Rattle.tlv.specs.Packet.{packet_at, too_long}
 use Rattle.intake.specs.declared.held.Cursor.{Cursor}
-use Rattle.delivery.specs.Cursor.{turn_of, left, is_event, advanced_by, slot_advanced, tail_advanced, advanced_of, turn-event, turn_on}
+use Rattle.delivery.specs.Cursor.{turn_of, left, is_event, advanced_by, slot_advanced, tail_advanced, advanced_of}
+use Rattle.delivery.proofs.CursorLaws.{turn-event, turn_on}
 use Rattle.intake.specs.Slot.{holding}
 use Rattle.state.specs.State.{State, with_slot}
 use Rattle.frames.specs.Slot.{short_by}
 use Rattle.receiver.specs.Show.{show_of}
-use Rattle.receiver.specs.Next.{NextOut, past, onwards, arrived_by, packet_of, read_on, read_all, next_of, next-short, next-idle, next-reads, short-room}
-use Rattle.receiver.specs.ReadOn.{packet-kept, length-packet, Ample}
+use Rattle.receiver.specs.Next.{NextOut, past, onwards, arrived_by, packet_of, read_on, read_all, next_of}
+use Rattle.receiver.proofs.NextLaws.{next-short, next-idle, next-reads, short-room}
+use Rattle.receiver.specs.ReadOn.{Ample}
+use Rattle.receiver.proofs.ReadOnLaws.{packet-kept, length-packet}
 
 -- a part that lies in its memory, or is empty
 part-full : (s : List ℕ) (start len : ℕ) → start + len ≤ length s → length (part_of s start len) ≡ len

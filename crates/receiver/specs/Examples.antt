@@ -1,11 +1,8 @@
 -- Examples of next and show, computed over the definitions.
-use Rattle.std.specs.Prelude.{◌≡◌, refl, [], ◌∷◌}
-use Rattle.wire.specs.Memory.{part_of}
+use Rattle.std.specs.Prelude.{◌≡◌, [], ◌∷◌}
 use Rattle.queue.specs.declared.event.Event.TheVariants.{Refused}
 use Rattle.queue.specs.declared.event.Memory.TheVariants.{Packet, Collecting}
-use Rattle.state.specs.Start.{fresh_state}
 use Rattle.state.specs.Examples.{due}
-use Rattle.frames.specs.Slot.{short_by}
 use Rattle.receiver.specs.Next.{answered, next_of}
 use Rattle.receiver.specs.Show.{show_of}
 
@@ -17,7 +14,3 @@ Nexts =
     × (show_of (1 ∷ 2 ∷ 3 ∷ []) (4 ∷ 5 ∷ []) (record { memory = Packet; start = 1; len = 2 }) ≡ 2 ∷ 3 ∷ [])
     × (show_of (1 ∷ 2 ∷ 3 ∷ []) (4 ∷ 5 ∷ []) (record { memory = Collecting; start = 0; len = 1 }) ≡ 4 ∷ [])
     × (show_of (1 ∷ 2 ∷ 3 ∷ []) (4 ∷ 5 ∷ []) (record { memory = Packet; start = 2; len = 2 }) ≡ [])
-
-pub nexts : Nexts
-unfolding next_of short_by fresh_state show_of part_of
-nexts = (refl, refl, refl, refl)

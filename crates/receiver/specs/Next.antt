@@ -1,21 +1,15 @@
 -- Next: it reads on, one event a call, until nothing waits.
-use Rattle.std.specs.Prelude.{ℕ, zero, suc, ◌*◌, ◌≤◌, ◌≡◌, true, false, cond, List, length, get_or, set, ltb}
-use Rattle.std.proofs.Common.{◌∙◌, ltb-false}
-use Rattle.std.proofs.Math.Path.{ap}
-use Rattle.wire.specs.Choice.{chosen, chosen-not, neither}
-use Rattle.words.specs.Config.{KeptConfig}
+use Rattle.std.specs.Prelude.{ℕ, zero, suc, false, cond, List, length, get_or, set}
 use Rattle.reassembly.specs.Channel.{unheard}
 use Rattle.queue.specs.declared.event.Event.{Event as AnEvent}
 use Rattle.queue.specs.declared.event.Event.TheVariants.{Nothing, Refused}
 use Rattle.state.specs.State.{Answer, State, with_owed, with_slot, with_queue, with_channels}
-use Rattle.queue.specs.declared.located.Located.{Located}
 use Rattle.delivery.specs.declared.packet.Arrived.{Arrived}
 use Rattle.delivery.specs.declared.packet.Arrived.TheVariants.{Silent, Noted, Good}
-use Rattle.mmtp.specs.declared.note.PacketNote.{PacketNote}
 use Rattle.delivery.specs.declared.cursor.Found.{Found}
 use Rattle.delivery.specs.declared.cursor.Found.TheVariants.{Event, Packet, Tail, Done}
 use Rattle.delivery.specs.Cursor.{Turn, turn_of, left}
-use Rattle.intake.specs.Slot.{packet_memory, holding}
+use Rattle.intake.specs.Slot.{holding}
 use Rattle.frames.specs.Slot.{short_by}
 use Rattle.delivery.specs.Packet.{note_queue, arrived_at, joined_of}
 
@@ -64,41 +58,3 @@ unfoldable pub next_of : State → List ℕ → List ℕ → NextOut
 next_of st p c =
     cond (short_by st.config (length p) (length c)) (answered (Refused 22) st c)
     (cond st.owed (read_all st p c) (answered Nothing st c))
-
--- Laws.
-
--- what a packet leaves, case by case
-module _ (st : State) (p c : List ℕ) (start end : ℕ) where
-  pub packet-silent : arrived_at st.config p start end ≡ Silent → packet_of st p c start end ≡ (st, c)
-  unfolding packet_of
-  packet-silent e = ap (λ (a : Arrived). arrived_by a st p c) e
-
-  pub packet-noted : (n : PacketNote) (id : ℕ) → arrived_at st.config p start end ≡ Noted n id
-      → packet_of st p c start end ≡ (with_queue st (note_queue n id), c)
-  unfolding packet_of
-  packet-noted n id e = ap (λ (a : Arrived). arrived_by a st p c) e
-
-  pub packet-good : (l : Located) → arrived_at st.config p start end ≡ Good l
-      → let k = l.packet.place in
-      let j = joined_of (get_or st.channels k unheard) l p c st.config.rules in
-      packet_of st p c start end ≡ (with_queue (with_channels st (set st.channels k j.0.channel)) j.0.queue, j.1)
-  unfolding packet_of
-  packet-good l e = ap (λ (a : Arrived). arrived_by a st p c) e
-
--- next, case by case
-module _ (st : State) (p c : List ℕ) where
-  pub next-short : short_by st.config (length p) (length c) ≡ true → next_of st p c ≡ answered (Refused 22) st c
-  unfolding next_of
-  next-short h = chosen (short_by st.config (length p) (length c)) _ _ h
-
-  pub next-idle : short_by st.config (length p) (length c) ≡ false → st.owed ≡ false → next_of st p c ≡ answered Nothing st c
-  unfolding next_of
-  next-idle h o = chosen-not (short_by st.config (length p) (length c)) _ _ h ∙ chosen-not st.owed _ _ o
-
-  pub next-reads : short_by st.config (length p) (length c) ≡ false → st.owed ≡ true → next_of st p c ≡ read_all st p c
-  unfolding next_of
-  next-reads h o = chosen-not (short_by st.config (length p) (length c)) _ _ h ∙ chosen st.owed _ _ o
-
-pub short-room : (c : KeptConfig) (packet collecting : ℕ) → short_by c packet collecting ≡ false → c.watch.n * c.rules.limit ≤ collecting
-unfolding short_by
-short-room c packet collecting h = ltb-false collecting (c.watch.n * c.rules.limit) (neither (ltb packet packet_memory) _ h).1

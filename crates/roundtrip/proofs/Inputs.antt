@@ -4,7 +4,7 @@ use mathlib.Core.Path.{◌≡◌, refl, sym, ◌∙◌, ap}
 use mathlib.Core.List.{List, [], ◌∷◌, ◌++◌, map, map-append, append_assoc}
 use native.Mathlib.Omega.{arith}
 use lib.ListN.{length, get_or}
-use Rattle.mmtp.specs.Flow.{other-type}
+use Rattle.mmtp.proofs.FlowLaws.{other-type}
 use Rattle.tlv.specs.Run.{
   Labelled as Labelled-packet,
   Event as Slot-event,

@@ -9,7 +9,7 @@ use Rattle.reassembly.specs.declared.config.Config.{Config}
 use Rattle.reassembly.specs.Channel.{unheard}
 use Rattle.reassembly.specs.Run.{fresh}
 use Rattle.packer.specs.Packer.{pack_of, pack_refusal, joined, run as packed-run}
-use Rattle.state.specs.Start.{starts}
+use Rattle.state.proofs.StartLaws.{starts}
 use Rattle.cutter.proofs.Runs.{cut_each, cut-run}
 use Rattle.packer.proofs.PacketReads.{packets-read}
 use Rattle.broadcast.specs.Drains.{unit, strip}

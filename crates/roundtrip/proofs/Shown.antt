@@ -46,7 +46,8 @@ use Rattle.broadcast.specs.Frames.{none, own_slots, slots_from as frameSlots}
 use Rattle.broadcast.specs.Accepts.{GoodFrame}
 use Rattle.broadcast.proofs.Accepts.{accepts}
 use Rattle.watch.specs.Given.{lookup_of, first_from}
-use Rattle.state.specs.Start.{before, twice_below, twice, start_refusal, Starts, starts as start-keeps}
+use Rattle.state.specs.Start.{before, twice_below, twice, start_refusal, Starts}
+use Rattle.state.proofs.StartLaws.{starts as start-keeps}
 use Rattle.roundtrip.specs.Sending.{all_packets, padded}
 use Rattle.roundtrip.specs.RoundTrip.{run_of}
 use Rattle.roundtrip.specs.Example.{config, units, gaps}

@@ -8,7 +8,8 @@ use lib.ListN.{length, get_or}
 use lib.Dec.{eqb}
 use borrow.Author.Tests.{eqb-true, eqb-false}
 use Rattle.watch.specs.declared.given.Found.TheVariants.{At}
-use Rattle.watch.specs.Given.{lookup_of, lookup_at}
+use Rattle.watch.specs.Given.{lookup_of}
+use Rattle.watch.proofs.GivenLaws.{lookup_at}
 use Rattle.reassembly.specs.declared.config.Config.{Config}
 use Rattle.reassembly.specs.declared.channel.Channel.{Channel}
 use Rattle.reassembly.specs.declared.channel.Phase.TheVariants.{Unheard, Idle}

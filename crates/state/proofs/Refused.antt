@@ -3,7 +3,7 @@ use mathlib.Core.Path.{refl}
 use mathlib.Core.Bool.{◌||◌}
 use native.Mathlib.Omega.{arith}
 use lib.Dec.{eqb, ltb}
-use Rattle.wire.specs.Choice.{either}
+use Rattle.wire.proofs.Choice.{either}
 use Rattle.reassembly.specs.declared.config.Config.{Config}
 use Rattle.state.specs.State.{State}
 use Rattle.state.specs.Refused.{OneOf, KeepsState}

@@ -5,14 +5,16 @@ use mathlib.Core.Bool.{Bool, true, false, cond}
 use native.Mathlib.Omega.{arith}
 use borrow.Author.Tests.{eqb-true}
 use lib.Dec.{eqb}
-use Rattle.watch.specs.Order.{rising-rises, rising-length}
+use Rattle.watch.proofs.Order.{rising-rises, rising-length}
 use Rattle.reassembly.specs.declared.config.Config.{Config}
 use Rattle.words.specs.Config.{kept_config}
-use Rattle.delivery.specs.Packet.{arrived-same}
-use Rattle.delivery.specs.Within.{arrived-place}
+use Rattle.delivery.proofs.PacketLaws.{arrived-same}
+use Rattle.delivery.proofs.WithinLaws.{arrived-place}
 use Rattle.state.specs.State.{State, Called, accepted, refused}
-use Rattle.state.specs.Start.{start_refusal, fresh_state, start_from, start-fresh, Starts, starts}
-use Rattle.state.specs.Watching.{InOrderGiven, WatchClaim, watch-given}
+use Rattle.state.specs.Start.{start_refusal, fresh_state, start_from, Starts}
+use Rattle.state.proofs.StartLaws.{start-fresh, starts}
+use Rattle.state.specs.Watching.{InOrderGiven, WatchClaim}
+use Rattle.state.proofs.WatchingLaws.{watch-given}
 
 -- a start that refuses nothing
 no_refusal : (st : State) (c : Config) → (start_from st c).refusal ≡ 0 → start_refusal c ≡ 0

@@ -1,12 +1,11 @@
 -- Examples of start, computed over the definitions: refusals in the table's order.
-use Rattle.std.specs.Prelude.{ℕ, ◌≡◌, refl, [], ◌∷◌, replicate}
+use Rattle.std.specs.Prelude.{ℕ, ◌≡◌, [], ◌∷◌, replicate}
 use Rattle.watch.specs.declared.given.Found.TheVariants.{At, Nothing}
-use Rattle.watch.specs.Given.{first_from, lookup_of}
-use Rattle.watch.specs.Rising.{inserted, rising_of, searched, search_of}
+use Rattle.watch.specs.Rising.{search_of}
 use Rattle.reassembly.specs.declared.config.Config.{Config}
 use Rattle.tmcc.specs.Layout.{blank_layout}
 use Rattle.state.specs.State.{State, with_frame}
-use Rattle.state.specs.Start.{before, twice_below, twice, fresh_state, start_refusal}
+use Rattle.state.specs.Start.{fresh_state, start_refusal}
 
 -- n ids, the first of which stands twice if n is above 1
 abbrev pub config : ℕ → ℕ → ℕ → Config
@@ -24,10 +23,6 @@ Starts =
     × (start_refusal (config 1 4096 0) ≡ 3) × (start_refusal (config 1 4095 0) ≡ 4) × (start_refusal (config 1 4095 1048577) ≡ 4)
     × (start_refusal (config 1 4095 1048576) ≡ 0)
 
-pub starts : Starts
-unfolding start_refusal twice twice_below before lookup_of first_from
-starts = (refl, refl, refl, refl, refl, refl, refl)
-
 -- three ids in falling order; the fourth, behind n, is one of them again
 abbrev falling : Config
 falling =
@@ -41,7 +36,3 @@ Keeps =
     ≡ record { id = 3; place = 2 } ∷ record { id = 7; place = 1 } ∷ record { id = 9; place = 0 } ∷ [])
     × (search_of (fresh_state falling).config.watch 3 ≡ At 2) × (search_of (fresh_state falling).config.watch 7 ≡ At 1)
     × (search_of (fresh_state falling).config.watch 9 ≡ At 0) × (search_of (fresh_state falling).config.watch 8 ≡ Nothing)
-
-pub keeps : Keeps
-unfolding start_refusal twice twice_below before lookup_of first_from fresh_state inserted rising_of searched search_of
-keeps = (refl, refl, refl, refl, refl, refl)

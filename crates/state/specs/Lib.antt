@@ -5,6 +5,4 @@ pub mod Words
 pub mod Start
 pub mod Watching
 pub mod Lent
-pub mod Clean
-pub mod Leaves
 pub mod Examples

@@ -3,14 +3,13 @@ use Rattle.std.specs.Prelude.{ℕ, ◌*◌, ◌≡◌, List, length}
 use Rattle.watch.specs.declared.given.Found.TheVariants.{At}
 use Rattle.watch.specs.Given.{lookup_of}
 use Rattle.watch.specs.Rising.{Rises, search_of}
-use Rattle.watch.specs.Order.{rising_answers}
 use Rattle.reassembly.specs.declared.config.Config.{Config}
-use Rattle.words.specs.Config.{KeptConfig, kept_config}
+use Rattle.words.specs.Config.{KeptConfig}
 use Rattle.queue.specs.declared.located.Located.{Located}
 use Rattle.delivery.specs.declared.packet.Arrived.TheVariants.{Good}
 use Rattle.delivery.specs.Packet.{comes_to, arrived_at, base_of}
 use Rattle.state.specs.State.{State}
-use Rattle.state.specs.Start.{start_from, Starts}
+use Rattle.state.specs.Start.{start_from}
 
 -- what start keeps of `c` answers as a search through c's list in the order given. Every call keeps it as it is; a packet_id
 -- collects from `base_of` on, which `joined_of` cites.
@@ -30,7 +29,3 @@ pub record InOrderGiven (c : Config) (kept : KeptConfig) : Type 0 where
 -- list that start accepts"; st is what stood in the words before
 abbrev pub WatchClaim : Type 0
 WatchClaim = (st : State) (c : Config) → (start_from st c).refusal ≡ 0 → InOrderGiven c (start_from st c).state.config
-
--- the answer, for every configuration that meets start's conditions
-pub watch-given : (c : Config) → Starts c → (id : ℕ) → search_of (kept_config c).watch id ≡ lookup_of c.watch id
-watch-given c s id = rising_answers c.watch s.few s.once id

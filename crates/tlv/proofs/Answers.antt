@@ -13,7 +13,8 @@ use Rattle.tlv.specs.declared.held.Continuation.{Continuation}
 use Rattle.tlv.specs.declared.note.SlotNote.TheVariants.{Misfit, TooLong}
 use Rattle.tlv.specs.declared.held.Continuation.TheVariants.{Dropped, Ends, GoesOn}
 use Rattle.tlv.specs.Packet.{total, complete, max_packet}
-use Rattle.tlv.specs.Cuts.{total-bytes, total-append, total-take, complete_if, short-packet, short-header, Sized}
+use Rattle.tlv.specs.Cuts.{Sized}
+use Rattle.tlv.proofs.CutsLaws.{total-bytes, total-append, total-take, complete_if, short-packet, short-header}
 use Rattle.tlv.specs.Slot.{none, sound}
 use Rattle.tlv.specs.Held.{end_within, end_beyond, held_total, held_end, continuation_of}
 

@@ -8,7 +8,7 @@ use lib.Dec.{eqb, ltb}
 use Rattle.tlv.specs.declared.held.Continuation.{Continuation}
 use Rattle.tlv.specs.declared.held.Continuation.TheVariants.{Dropped, Ends, GoesOn}
 use Rattle.tlv.specs.Packet.{marked, cut}
-use Rattle.tlv.specs.Cuts.{marked_append, cut-tail-marked}
+use Rattle.tlv.proofs.CutsLaws.{marked_append, cut-tail-marked}
 use Rattle.tlv.specs.Slot.{none, end_from, last_pointer, sound}
 use Rattle.tlv.specs.Held.{continuation_of}
 use Rattle.tlv.specs.Run.{Slot, State, searching, held, Arrival, lost, given, kept, read_from, resumed, arrived, step, state_after}

@@ -5,3 +5,10 @@ pub mod Loss
 pub mod RowCuts
 pub mod Rows
 pub mod HeldGood
+pub mod CutsLaws
+pub mod FadesLaws
+pub mod HeldLaws
+pub mod NotesLaws
+pub mod SlotLaws
+pub mod SpecimensLaws
+pub mod Walks

@@ -14,7 +14,8 @@ use Rattle.tlv.specs.Slot.{sound}
 use Rattle.tlv.specs.Run.{Slot, Labelled, Event, note, State, searching, held, Stepped, lost, given}
 use Rattle.tlv.specs.Run.{packet_of, after, kept, read_from, finished, resumed, arrived, step, run, packets}
 use Rattle.tlv.specs.Run.{intact, arrival, damaged}
-use Rattle.wire.specs.Lists.{sift, all, sift-append, all_append}
+use Rattle.wire.specs.Lists.{sift, all}
+use Rattle.wire.proofs.ListsLaws.{sift-append, all_append}
 use Rattle.tlv.specs.Claims.{RunLoss}
 use Rattle.tlv.proofs.Answers.{Says, says}
 use Rattle.tlv.proofs.Runs.{lost-stops, step_given, packets-append}

@@ -7,8 +7,9 @@ use native.Mathlib.Omega.{arith}
 use lib.ListN.{length, take, drop, length-append, length-map}
 use lib.Seq.{take_at, drop_at, length-take-le}
 use Rattle.tlv.specs.Packet.{total, complete, uncut, in_front, cut_by, cut}
-use Rattle.tlv.specs.Cuts.{complete-fits, complete_if, total-append, Sized, AllSized, row}
-use Rattle.tlv.specs.Cuts.{cut-end, cut-more, cut-sized, cut-whole}
+use Rattle.tlv.specs.Cuts.{Sized, AllSized}
+use Rattle.tlv.proofs.CutsLaws.{complete-fits, complete_if, total-append, row}
+use Rattle.tlv.proofs.CutsLaws.{cut-end, cut-more, cut-sized, cut-whole}
 use Rattle.tlv.specs.Row.{tagged, bytes_of, packets_by, row_packets}
 use Rattle.tlv.specs.Row as slots
 use Rattle.tlv.specs.Claims.{RowCut}

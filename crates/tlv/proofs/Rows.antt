@@ -10,13 +10,15 @@ use lib.Seq.{length-take-le, drop-append-le}
 use Rattle.tlv.specs.declared.held.Continuation.{Continuation}
 use Rattle.tlv.specs.declared.held.Continuation.TheVariants.{Dropped, Ends, GoesOn}
 use Rattle.tlv.specs.Packet.{complete, too_long, cut}
-use Rattle.tlv.specs.Cuts.{short-header, cut-tail_open, cut-sized, AllSized}
+use Rattle.tlv.specs.Cuts.{AllSized}
+use Rattle.tlv.proofs.CutsLaws.{short-header, cut-tail_open, cut-sized}
 use Rattle.tlv.specs.Slot.{sound}
 use Rattle.tlv.specs.Held.{held_end}
 use Rattle.tlv.specs.Run.{Slot, without_top, Labelled, Event, State, searching, held, Stepped, given}
 use Rattle.tlv.specs.Run.{packet_of, after, kept, read_from, finished, resumed, arrived, step, run, packets, Clean, intact}
 use Rattle.tlv.specs.Row.{tagged, bytes_of, labels_of, all_bytes, row, packets_by, row_packets}
-use Rattle.wire.specs.Lists.{sift, all, all_append, sift-map}
+use Rattle.wire.specs.Lists.{sift, all}
+use Rattle.wire.proofs.ListsLaws.{all_append, sift-map}
 use Rattle.tlv.specs.Claims.{Seen, Filled, seen, seen_in_row, RunRow, RowLoss}
 use Rattle.tlv.proofs.Answers.{end_of, Says, says, top-inside, ends-past, ends-sized, goes-open}
 use Rattle.tlv.proofs.Runs.{step_given, clean-left, clean-right, packets-append}

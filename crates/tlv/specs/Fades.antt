@@ -1,14 +1,10 @@
 -- Examples of lost and noted slots: a packet whose header is split over two of three slots, one that goes through all three, and
 -- slots with notes 41, 42 and 43.
 use Rattle.std.specs.Prelude.{ℕ, ◌≡◌, not, List, [], ◌∷◌, ◌++◌, take, eqb}
-use Rattle.std.proofs.Math.Path.{refl}
-use Rattle.wire.specs.Field.{be}
-use Rattle.tlv.specs.Packet.{good_first, total, complete, too_long, marked, cut_by, cut}
-use Rattle.tlv.specs.Slot.{none, end_from, last_pointer, sound}
-use Rattle.tlv.specs.Held.{end_within, end_beyond, held_total, held_end, continuation_of}
+use Rattle.tlv.specs.Slot.{none}
 use Rattle.tlv.specs.Run.{Slot, note, packet_of, searching, held, Arrival}
-use Rattle.tlv.specs.Run.{kept, read_from, finished, resumed, arrived, step, run, state_after, intact, damaged}
-use Rattle.tlv.specs.Row.{tagged, all_bytes, row, packets_by, row_packets}
+use Rattle.tlv.specs.Run.{run, state_after, intact, damaged}
+use Rattle.tlv.specs.Row.{tagged, row_packets}
 
 -- a null packet that is only its header, and two IP packets
 abbrev null_packet : List ℕ
@@ -93,10 +89,3 @@ Fades =
     × (run (held [] []) (intact (unfitting ∷ next ∷ [])) ≡ note 42 ∷ packet_of (2 ∷ []) null_packet ∷ [])
     -- a tail "whose known total is above 16,384 gives 43", behind the slot's packets, and leaves it searching
     × (run searching (intact (tailed ∷ next ∷ [])) ≡ packet_of (1 ∷ []) null_packet ∷ note 43 ∷ packet_of (2 ∷ []) null_packet ∷ [])
-
-pub fades : Fades
-fades =
-    unfold be good_first total complete too_long marked cut_by cut in
-    unfold end_from last_pointer sound end_within end_beyond held_total held_end continuation_of in
-    unfold kept read_from finished resumed arrived step run state_after all_bytes row packets_by row_packets in
-    (refl, refl, refl, refl, refl, refl, refl, refl, refl, refl, refl, refl, refl, refl, refl)

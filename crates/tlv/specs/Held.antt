@@ -1,6 +1,5 @@
 -- What a sound slot does to held bytes: 43 is decided before 42.
-use Rattle.std.specs.Prelude.{ℕ, ◌-◌, ◌<◌, ◌≤◌, ◌≡◌, cond, List, ◌++◌, length, eqb, ltb}
-use borrow.Author.Tests.{lt-ltb, le-ltb, eq-eqb, ne_eqb}
+use Rattle.std.specs.Prelude.{ℕ, ◌-◌, cond, List, ◌++◌, length, eqb, ltb}
 use Rattle.tlv.specs.declared.held.Continuation.{Continuation}
 use Rattle.tlv.specs.declared.note.SlotNote.TheVariants.{Misfit, TooLong}
 use Rattle.tlv.specs.declared.held.Continuation.TheVariants.{Dropped, Ends, GoesOn}
@@ -37,23 +36,3 @@ abbrev pub note_of : Continuation → ℕ
 note_of (Dropped n) = number_of n
 note_of (Ends end) = 0
 note_of GoesOn = 0
-
--- the four cases
-module _ (held s : List ℕ) (top last : ℕ) where
-  pub nothing-held : length held ≡ 0 → continuation_of held s top last ≡ end_within 0 top
-  unfolding continuation_of
-  nothing-held h = rw (eq-eqb _ _ h)
-
-  pub held_too_long : (length held ≡ 0 → ⊥) → max_packet < held_total held s → continuation_of held s top last ≡ Dropped TooLong
-  unfolding continuation_of
-  held_too_long h l = rw (ne_eqb _ _ h, lt-ltb _ _ l)
-
-  pub held-without-top : (length held ≡ 0 → ⊥) → held_total held s ≤ max_packet → top ≡ none
-      → continuation_of held s top last ≡ end_beyond (held_end held s) (length s) last
-  unfolding continuation_of
-  held-without-top h l t = rw (ne_eqb _ _ h, le-ltb _ _ l, eq-eqb _ _ t)
-
-  pub held-before-top : (length held ≡ 0 → ⊥) → held_total held s ≤ max_packet → (top ≡ none → ⊥)
-      → continuation_of held s top last ≡ end_within (held_end held s) top
-  unfolding continuation_of
-  held-before-top h l t = rw (ne_eqb _ _ h, le-ltb _ _ l, ne_eqb _ _ t)

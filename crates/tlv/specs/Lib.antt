@@ -2,7 +2,6 @@
 pub mod Notes
 pub mod Packet
 pub mod Cuts
-pub mod Walks
 pub mod Slot
 pub mod Held
 pub mod Run

@@ -1,9 +1,6 @@
 -- Sound slots (document 01, "A slot is sound exactly if"; document 02, item 2, for the first bytes).
-use Rattle.std.specs.Prelude.{ℕ, ◌-◌, ◌≤◌, ◌<◌, ◌≡◌, Bool, false, cond, ◌&&◌, ◌||◌, List, length, drop, eqb, ltb}
-use borrow.Author.Tests.{lt-ltb, le-ltb, eq-eqb, ne_eqb}
-use Rattle.tlv.specs.declared.packet.Walked.TheVariants.{Unmarked, Tail as TailAt}
-use Rattle.tlv.specs.Packet.{cut, walk_of}
-use Rattle.tlv.specs.Walks.{unmarked_bad, tail-good}
+use Rattle.std.specs.Prelude.{ℕ, ◌-◌, Bool, cond, ◌&&◌, ◌||◌, List, length, drop, eqb, ltb}
+use Rattle.tlv.specs.Packet.{cut}
 use Rattle.tlv.specs.declared.note.SlotNote.TheVariants.{Unsound}
 use Rattle.tlv.specs.Notes.{number_of}
 
@@ -27,25 +24,3 @@ sound s top last =
 -- the note of an own live slot by itself: 41 if it is unsound; 0 for none
 unfoldable pub slot_note : List ℕ → ℕ → ℕ → ℕ
 slot_note s top last = cond (sound s top last) 0 (number_of Unsound)
-
--- its cases, by the top pointer and by where the walk comes to
-module _ (s : List ℕ) (top last : ℕ) where
-  pub sound-without-top : top ≡ none → sound s top last ≡ (eqb last none || eqb last (length s))
-  unfolding sound
-  sound-without-top t = rw (eq-eqb _ _ t)
-
-  module _ (t : top ≡ none → ⊥) where
-    pub unsound_outside : length s ≤ top → sound s top last ≡ false
-    unfolding sound
-    unsound_outside h = rw (ne_eqb _ _ t, le-ltb _ _ h)
-
-    pub unsound_unmarked : top < length s → walk_of s top ≡ Unmarked → sound s top last ≡ false
-    unfolding sound
-    unsound_unmarked h w = rw (ne_eqb _ _ t, lt-ltb _ _ h, unmarked_bad s top w)
-
-    pub sound-tail : top < length s → (end : ℕ) → walk_of s top ≡ TailAt end
-        → sound s top last ≡ eqb last (last_pointer end)
-    unfolding sound end_from
-    sound-tail h end w =
-        let g = tail-good s top end w in
-        rw (ne_eqb _ _ t, lt-ltb _ _ h, g.0, g.1)

@@ -1,12 +1,10 @@
 -- The specimens of document 01 for slots, and further examples.
 use Rattle.std.specs.Prelude.{ℕ, ◌≡◌, true, false, List, [], ◌∷◌, ◌++◌, replicate}
-use Rattle.std.proofs.Math.Path.{refl}
 use Rattle.tlv.specs.declared.note.SlotNote.TheVariants.{Misfit, TooLong}
 use Rattle.tlv.specs.declared.held.Continuation.TheVariants.{Dropped, Ends, GoesOn}
-use Rattle.wire.specs.Field.{be}
-use Rattle.tlv.specs.Packet.{good_first, total, complete, too_long, marked, cut_by, cut}
-use Rattle.tlv.specs.Slot.{end_from, last_pointer, sound, slot_note}
-use Rattle.tlv.specs.Held.{end_within, end_beyond, held_total, held_end, continuation_of, note_of}
+use Rattle.tlv.specs.Packet.{good_first, too_long}
+use Rattle.tlv.specs.Slot.{sound, slot_note}
+use Rattle.tlv.specs.Held.{continuation_of, note_of}
 
 -- a slot of 1870 bytes that is one packet: its length field is 0x074a, 1866
 abbrev one_packet : List ℕ
@@ -38,12 +36,6 @@ Specimens =
     × (note_of (continuation_of (begun 0xfd) (replicate 1870 0) 0xffff 0xffff) ≡ 43)
     × (too_long (begun 0xfd) ≡ true)
 
-pub specimens : Specimens
-specimens =
-    unfold be good_first total complete too_long marked cut_by cut in
-    unfold end_from last_pointer sound slot_note end_within end_beyond held_total held_end continuation_of in
-    (refl, refl, refl, refl, refl, refl, refl, refl)
-
 -- a slot of four bytes: a null packet that is only its header
 abbrev null_packet : List ℕ
 null_packet = 0x7f ∷ 0xff ∷ 0 ∷ 0 ∷ []
@@ -69,11 +61,6 @@ FirstBytes =
     × (sound (0x40 ∷ null_packet) 1 5 ≡ true)
     × (sound (0x40 ∷ 0x40 ∷ []) 0xffff 0xffff ≡ true)
 
-pub first-bytes : FirstBytes
-first-bytes =
-    unfold be good_first total complete marked cut_by cut end_from last_pointer sound in
-    (refl, refl, refl, refl, refl, refl, refl, refl, refl, refl)
-
 -- small ones, by the readings of document 01
 abbrev pub Examples : Type 0
 Examples =
@@ -98,9 +85,3 @@ Examples =
     × (continuation_of (header 5) (replicate 4 0) 0xffff 4 ≡ Dropped Misfit)
     × (continuation_of (header 5) (replicate 4 0) 0xffff 0xffff ≡ GoesOn)
     × (continuation_of [] (replicate 4 0) 0xffff 0xffff ≡ Dropped Misfit)
-
-pub examples : Examples
-examples =
-    unfold be good_first total complete marked cut_by cut in
-    unfold end_from last_pointer sound end_within end_beyond held_total held_end continuation_of in
-    (refl, refl, refl, refl, refl, refl, refl, refl, refl, refl, refl, refl, refl, refl, refl, refl)

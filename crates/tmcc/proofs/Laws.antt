@@ -8,15 +8,17 @@ use native.Mathlib.Omega.{arith}
 use lib.ListN.{length, get_or}
 use lib.Dec.{eqb, ltb}
 use borrow.Author.Tests.{eqb-true, eqb-false, ltb-true, ltb-false}
-use Rattle.wire.specs.Choice.{either}
+use Rattle.wire.proofs.Choice.{either}
 use Rattle.tmcc.specs.declared.block.Decoded.{Decoded}
 use Rattle.tmcc.specs.declared.layout.Pointers.{Pointers}
-use Rattle.wire.specs.Tab.{get_or-tab, length-tab}
+use Rattle.wire.proofs.TabLaws.{get_or-tab, length-tab}
 use Rattle.tmcc.specs.Count.{all_below, count_below}
-use Rattle.tmcc.specs.Mode.{slot_count, slots_of, slots-one, mode_good, modes_good, mode_from, mode_of, slot_length}
+use Rattle.tmcc.specs.Mode.{slot_count, slots_of, mode_good, modes_good, mode_from, mode_of, slot_length}
+use Rattle.tmcc.proofs.ModeLaws.{slots-one}
 use Rattle.tmcc.specs.Stream.{chosen, own_slot}
 use Rattle.tmcc.specs.Layout.{layout_of, pointers_at}
-use Rattle.tmcc.specs.Block.{decode_of, own_stream, Accepted, accepts}
+use Rattle.tmcc.specs.Block.{decode_of, own_stream, Accepted}
+use Rattle.tmcc.proofs.BlockLaws.{accepts}
 use Rattle.tmcc.proofs.Cases.{and_left, and_right, by_test}
 use Rattle.tmcc.proofs.Table.{slot-most}
 

@@ -3,3 +3,6 @@ pub mod Cases
 pub mod Table
 pub mod Laws
 pub mod Specimens
+pub mod BlockLaws
+pub mod CountLaws
+pub mod ModeLaws

@@ -1,6 +1,5 @@
 -- The control block: refusals 10, 12, 13 and 14 in this order, or the layout for the stream with an id.
-use Rattle.std.specs.Prelude.{ℕ, ◌≡◌, true, false, cond, List, length, eqb}
-use Rattle.std.proofs.Common.{eq-eqb, ne_eqb}
+use Rattle.std.specs.Prelude.{ℕ, ◌≡◌, true, cond, List, length, eqb}
 use Rattle.tmcc.specs.declared.block.Decoded.{Decoded}
 use Rattle.tmcc.specs.Count.{count_below, last_below}
 use Rattle.tmcc.specs.Mode.{modes_good}
@@ -25,33 +24,9 @@ decode_of b id =
     (refused 12))
     (refused 10)
 
--- by cases: the four refusals
-pub refused-length : (b : List ℕ) (id : ℕ) → (length b ≡ 1178 → ⊥) → decode_of b id ≡ refused 10
-unfolding decode_of
-refused-length b id l = rw (ne_eqb _ _ l)
-
-pub refused-modes : (b : List ℕ) (id : ℕ) → length b ≡ 1178 → modes_good b ≡ false → decode_of b id ≡ refused 12
-unfolding decode_of
-refused-modes b id l m = rw (eq-eqb _ _ l, m)
-
-pub refused-streams : (b : List ℕ) (id : ℕ) → length b ≡ 1178 → modes_good b ≡ true → (count_below (chosen b id) 16 ≡ 1 → ⊥)
-    → decode_of b id ≡ refused 13
-unfolding decode_of
-refused-streams b id l m n = rw (eq-eqb _ _ l, m, ne_eqb _ _ n)
-
-pub refused-own : (b : List ℕ) (id : ℕ) → length b ≡ 1178 → modes_good b ≡ true → count_below (chosen b id) 16 ≡ 1
-    → count_below (own_slot b (own_stream b id)) 120 ≡ 0 → decode_of b id ≡ refused 14
-unfolding decode_of
-refused-own b id l m n o = rw (eq-eqb _ _ l, m, eq-eqb _ _ n, eq-eqb _ _ o)
-
 -- what an accepted block keeps to
 pub record Accepted (b : List ℕ) (id : ℕ) : Type 0 where
   pub size : length b ≡ 1178
   pub modes : modes_good b ≡ true
   pub one : count_below (chosen b id) 16 ≡ 1
   pub some : count_below (own_slot b (own_stream b id)) 120 ≡ 0 → ⊥
-
--- and then its layout is given
-pub accepts : (b : List ℕ) (id : ℕ) → Accepted b id → decode_of b id ≡ record { refusal = 0; layout = layout_of b (own_stream b id) }
-unfolding decode_of
-accepts b id a = rw (eq-eqb _ _ a.size, a.modes, eq-eqb _ _ a.one, ne_eqb _ _ a.some)

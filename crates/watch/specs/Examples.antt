@@ -1,11 +1,10 @@
 -- Examples of the watch list, computed over the definitions: a list that start is given, and words that no start makes.
-use Rattle.std.specs.Prelude.{ℕ, ◌≡◌, refl, List, [], ◌∷◌, replicate}
-use Rattle.wire.specs.Tab.{tab}
+use Rattle.std.specs.Prelude.{ℕ, ◌≡◌, List, [], ◌∷◌, replicate}
 use Rattle.watch.specs.declared.given.Watch.{Watch}
 use Rattle.watch.specs.declared.given.Found.TheVariants.{At, Nothing}
-use Rattle.watch.specs.Given.{first_from, lookup_of}
-use Rattle.watch.specs.Rising.{Entry, inserted, rising_of, searched, rising, search_of}
-use Rattle.watch.specs.Words.{entry_of, entry_word, entries_in, rising_in, rising_words}
+use Rattle.watch.specs.Given.{lookup_of}
+use Rattle.watch.specs.Rising.{Entry, rising, search_of}
+use Rattle.watch.specs.Words.{entry_word, rising_in, rising_words}
 
 abbrev the : ℕ → ℕ → Entry
 the id place = record { id = id; place = place }
@@ -19,10 +18,6 @@ Keeps =
     ((rising given).list ≡ the 0 3 ∷ the 3 1 ∷ the 7 4 ∷ the 9 0 ∷ the 65535 2 ∷ [])
     × (rising_words (rising given) ≡ 3 ∷ 49 ∷ 116 ∷ 144 ∷ 1048562 ∷ replicate 11 1048576)
 
-pub keeps : Keeps
-unfolding inserted rising_of entry_word rising_words tab
-keeps = (refl, refl)
-
 -- the smallest and the largest are found too, each at the place given; ids beside them are not
 abbrev pub Finds : Type 0
 Finds =
@@ -30,10 +25,6 @@ Finds =
     × (search_of (rising given) 9 ≡ At 0) × (search_of (rising given) 65535 ≡ At 2) × (search_of (rising given) 1 ≡ Nothing)
     × (search_of (rising given) 5 ≡ Nothing) × (search_of (rising given) 8 ≡ Nothing) × (search_of (rising given) 65534 ≡ Nothing)
     × (lookup_of given 65535 ≡ At 2) × (lookup_of given 5 ≡ Nothing)
-
-pub finds : Finds
-unfolding inserted rising_of searched search_of first_from lookup_of
-finds = (refl, refl, refl, refl, refl, refl, refl, refl, refl, refl, refl)
 
 abbrev word : ℕ → ℕ → ℕ
 word id place = entry_word (the id place)
@@ -53,7 +44,3 @@ Wild =
     × (search_of (rising_in wild 0 3) 3 ≡ At 2) × (search_of (rising_in wild 0 3) 5 ≡ At 0)
     × (search_of (rising_in wild 0 4) 65535 ≡ Nothing) × (search_of (rising_in wild 0 99) 3 ≡ At 2)
     × (search_of (rising_in wild 0 99) 0 ≡ Nothing) × (search_of (rising_in wild 0 0) 3 ≡ Nothing)
-
-pub wild_words : Wild
-unfolding searched search_of entry_of entry_word entries_in rising_in tab
-wild_words = (refl, refl, refl, refl, refl, refl, refl, refl, refl, refl)

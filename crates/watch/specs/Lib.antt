@@ -2,5 +2,4 @@
 pub mod Given
 pub mod Rising
 pub mod Words
-pub mod Order
 pub mod Examples

@@ -5,8 +5,10 @@ use mathlib.Core.List.{List}
 use native.Mathlib.Nat.{add-zero}
 use native.Mathlib.Omega.{arith}
 use lib.ListN.{length, set}
-use Rattle.wire.specs.Field.{bytes_of, bytes-add, bytes-mod, length-bytes_of}
-use Rattle.wire.specs.Memory.{pasted, pasted-zero, pasted-one, pasted-append}
+use Rattle.wire.specs.Field.{bytes_of}
+use Rattle.wire.proofs.FieldLaws.{bytes-add, bytes-mod, length-bytes_of}
+use Rattle.wire.specs.Memory.{pasted}
+use Rattle.wire.proofs.MemoryLaws.{pasted-zero, pasted-one, pasted-append}
 
 pub write_2 : (d : List ℕ) (i v : ℕ) → i + 2 ≤ length d → set (set d i (v / 256 % 256)) (i + 1) (v % 256) ≡ pasted d i (bytes_of 2 v) 2
 unfolding bytes_of

@@ -1,6 +1,5 @@
 -- The definitions of bytes and fields, and their laws.
 pub mod Bits
-pub mod Choice
 pub mod Field
 pub mod Lists
 pub mod Memory

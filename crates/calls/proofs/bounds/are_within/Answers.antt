@@ -1,7 +1,7 @@
 use Prim.Native.Nat.{◌-◌}
 use mathlib.Core.Path.{refl, sym, ◌∙◌}
 use native.Mathlib.Omega.{arith}
-use Rattle.calls.specs.Bounds.{within-few, within-above, within_on, within_end}
+use Rattle.calls.proofs.BoundsLaws.{within-few, within-above, within_on, within_end}
 use Rattle.calls.proofs.bounds.are_within.Goals as goal
 
 pub returns-then-t-most : goal.returns-then-t-most

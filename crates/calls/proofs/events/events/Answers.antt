@@ -1,8 +1,8 @@
 -- Why events meets its contract: too few words, no room for a record, memories that are too short, or what next gives.
 use mathlib.Core.Path.{refl, sym, ◌∙◌}
 use native.Mathlib.Omega.{arith}
-use Rattle.state.specs.Clean.{exact_none}
-use Rattle.calls.specs.Events.{events-few, events-short, events-done}
+use Rattle.state.proofs.Clean.{exact_none}
+use Rattle.calls.proofs.EventsLaws.{events-few, events-short, events-done}
 use Rattle.calls.proofs.events.events.Goals as goal
 
 pub returns-then-words-lt-STATE_WORDS : goal.returns-then-words-lt-STATE_WORDS

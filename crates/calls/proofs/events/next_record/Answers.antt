@@ -1,8 +1,9 @@
 -- Why next_record meets its contract: too few words, a record that is too short, a refused next, or its event.
 use mathlib.Core.Path.{◌≡◌, refl, sym, ◌∙◌}
 use native.Mathlib.Omega.{arith}
-use Rattle.state.specs.Clean.{exact_none}
-use Rattle.calls.specs.Events.{refusal_of, refused-event, event-put, next-few, next-done, next-refused}
+use Rattle.state.proofs.Clean.{exact_none}
+use Rattle.calls.specs.Events.{refusal_of}
+use Rattle.calls.proofs.EventsLaws.{refused-event, event-put, next-few, next-done, next-refused}
 use Rattle.calls.proofs.events.next_record.Goals as goal
 
 pub returns-then-words-lt-STATE_WORDS : goal.returns-then-words-lt-STATE_WORDS

@@ -5,11 +5,13 @@ use native.Mathlib.Omega.{arith}
 use borrow.Author.Tests.{not-true, not-false}
 use lib.ListN.{length}
 use Rattle.state.specs.Words.{state_in}
-use Rattle.receiver.specs.Next.{next_of, next-idle, next-reads, short-room}
-use Rattle.receiver.specs.ReadOn.{next-calm}
-use Rattle.state.specs.Clean.{exact_none, exact-on}
+use Rattle.receiver.specs.Next.{next_of}
+use Rattle.receiver.proofs.NextLaws.{next-idle, next-reads, short-room}
+use Rattle.receiver.proofs.ReadOnLaws.{next-calm}
+use Rattle.state.proofs.Clean.{exact_none, exact-on}
 use mathlib.Core.Bool.{true, false}
-use Rattle.calls.specs.Events.{is_given, events_of, events_left, event-put, gave, gave-start, gave-full, gave-none, gave-last, gave-on}
+use Rattle.calls.specs.Events.{is_given, events_of, events_left}
+use Rattle.calls.proofs.EventsLaws.{event-put, gave, gave-start, gave-full, gave-none, gave-last, gave-on}
 use Rattle.calls.proofs.events.read_events.Goals as goal
 
 -- there is room for one record more

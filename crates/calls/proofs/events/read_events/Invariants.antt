@@ -5,7 +5,8 @@ use lib.ListN.{length}
 use Rattle.state.specs.Words.{state_words, state_in, Exact}
 use Rattle.frames.specs.Slot.{short_by}
 use mathlib.Core.Bool.{false}
-use Rattle.calls.specs.Events.{events_of, events_left, gave}
+use Rattle.calls.specs.Events.{events_of, events_left}
+use Rattle.calls.proofs.EventsLaws.{gave}
 use Rattle.calls.proofs.events.read_events.Given as goal
 
 abbrev pub invariant-loop-n : goal.invariant-loop-n

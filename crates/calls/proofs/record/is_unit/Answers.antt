@@ -2,7 +2,8 @@
 use mathlib.Core.Path.{sym, ◌∙◌}
 use native.Mathlib.Omega.{arith}
 use borrow.Author.Tests.{not-true, not-false}
-use Rattle.calls.specs.Record.{unit_most, unit-not, unit-first, within-length}
+use Rattle.calls.specs.Record.{unit_most}
+use Rattle.calls.proofs.RecordLaws.{unit-not, unit-first, within-length}
 use Rattle.calls.proofs.record.is_unit.Goals as goal
 
 pub returns-then-not-are_within : goal.returns-then-not-are_within

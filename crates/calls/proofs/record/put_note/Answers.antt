@@ -5,7 +5,8 @@ use mathlib.Core.List.{List, ◌∷◌}
 use native.Mathlib.Nat.{add-zero}
 use native.Mathlib.Omega.{arith}
 use lib.ListN.{length-set, replicate}
-use Rattle.wire.specs.Words.{put_from, stores, put_on}
+use Rattle.wire.specs.Words.{put_from}
+use Rattle.wire.proofs.WordsLaws.{stores, put_on}
 use Rattle.calls.specs.Record.{note_record}
 use Rattle.calls.proofs.record.put_note.Goals as goal
 

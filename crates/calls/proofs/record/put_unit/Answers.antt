@@ -5,8 +5,10 @@ use mathlib.Core.List.{List, ◌∷◌, ◌++◌}
 use native.Mathlib.Nat.{add-zero}
 use native.Mathlib.Omega.{arith}
 use lib.ListN.{length-set, length-append, replicate}
-use Rattle.wire.specs.Words.{put_from, stores, put_on}
-use Rattle.words.specs.Channel.{unit_words, length-unit}
+use Rattle.wire.specs.Words.{put_from}
+use Rattle.wire.proofs.WordsLaws.{stores, put_on}
+use Rattle.words.specs.Channel.{unit_words}
+use Rattle.words.proofs.ChannelLaws.{length-unit}
 use Rattle.queue.specs.Words.{memory_word}
 use Rattle.calls.specs.Record.{unit_record}
 use Rattle.calls.proofs.record.put_unit.Goals as goal

@@ -2,7 +2,7 @@ use Prim.Native.Nat.{ℕ, ◌-◌}
 use mathlib.Core.Path.{◌≡◌}
 use native.Mathlib.Omega.{arith}
 use lib.ListN.{replicate, get_or-replicate}
-use Rattle.wire.specs.Words.{put-start, put_next}
+use Rattle.wire.proofs.WordsLaws.{put-start, put_next}
 use Rattle.calls.proofs.record.put_zeros.Goals as goal
 
 pub loop-j-init : goal.loop-j-init

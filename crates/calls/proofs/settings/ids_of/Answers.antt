@@ -2,7 +2,8 @@ use Prim.Native.Nat.{◌-◌}
 use mathlib.Core.Path.{refl}
 use native.Mathlib.Omega.{arith}
 use lib.ListN.{length-set}
-use Rattle.wire.specs.Tab.{tab, tab-turn, tab-filled}
+use Rattle.wire.specs.Tab.{tab}
+use Rattle.wire.proofs.TabLaws.{tab-turn, tab-filled}
 use Rattle.calls.specs.Settings.{ids_in}
 use Rattle.calls.proofs.settings.ids_of.Goals as goal
 

@@ -2,9 +2,9 @@
 use mathlib.Core.Path.{sym, ◌∙◌, ap}
 use native.Mathlib.Omega.{arith}
 use borrow.Author.Tests.{not-true, not-false}
-use Rattle.state.specs.Leaves.{leaves-short, leaves-refused}
+use Rattle.state.proofs.Leaves.{leaves-short, leaves-refused}
 use Rattle.state.specs.State.{Called}
-use Rattle.calls.specs.Settings.{start-by, start-not, settings-length}
+use Rattle.calls.proofs.SettingsLaws.{start-by, start-not, settings-length}
 use Rattle.calls.proofs.settings.start_by.Goals as goal
 
 pub returns-then-words-lt-STATE_WORDS : goal.returns-then-words-lt-STATE_WORDS

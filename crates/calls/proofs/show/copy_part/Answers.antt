@@ -1,6 +1,6 @@
 -- Why copy_part meets its contract: an output that is too short, or a copy.
 use mathlib.Core.Path.{sym}
-use Rattle.calls.specs.Show.{copied-short, copied-whole}
+use Rattle.calls.proofs.ShowLaws.{copied-short, copied-whole}
 use Rattle.calls.proofs.show.copy_part.Goals as goal
 
 pub returns-then-output-bytes : goal.returns-then-output-bytes

@@ -1,6 +1,6 @@
 -- Why copy_unit meets its contract: a record that is too short, or a part of one of the two memories.
 use mathlib.Core.Path.{sym, ◌∙◌}
-use Rattle.calls.specs.Show.{show-few, show-packet, show-collecting}
+use Rattle.calls.proofs.ShowLaws.{show-few, show-packet, show-collecting}
 use Rattle.calls.proofs.show.copy_unit.Goals as goal
 
 pub returns-then-event-lt-RECORD_WORDS : goal.returns-then-event-lt-RECORD_WORDS

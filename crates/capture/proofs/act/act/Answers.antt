@@ -1,9 +1,9 @@
 -- Why `act` meets its contract: the command does not fit, is accepted, or is refused.
 use Rattle.std.proofs.Common.{sym, ◌∙◌}
 use borrow.Author.Tests.{not-true, not-false}
-use Rattle.capture.specs.Command.{size-by}
-use Rattle.capture.specs.Steps.{acted_unknown, acted-accepted, acted-refused}
-use Rattle.state.specs.Clean.{exact_none}
+use Rattle.capture.proofs.CommandLaws.{size-by}
+use Rattle.capture.proofs.StepsLaws.{acted_unknown, acted-accepted, acted-refused}
+use Rattle.state.proofs.Clean.{exact_none}
 use Rattle.capture.proofs.act.act.Goals as goal
 
 pub returns-then-not-is_fit : goal.returns-then-not-is_fit

@@ -1,12 +1,12 @@
 -- Why `call` meets its contract: by the letter.
 use Rattle.std.proofs.Common.{ℕ, ◌≤◌, List, length, refl, ap}
-use Rattle.wire.specs.Memory.{slice-rest}
+use Rattle.wire.proofs.MemoryLaws.{slice-rest}
 use Rattle.state.specs.State.{Called}
 use Rattle.state.specs.Words.{state_words, Leaves}
-use Rattle.capture.specs.Command.{slot-size-long}
+use Rattle.capture.proofs.CommandLaws.{slot-size-long}
 use Rattle.capture.specs.Capture.{call_of}
 use Rattle.capture.specs.Words.{Calls}
-use Rattle.state.specs.Clean.{exact_none}
+use Rattle.state.proofs.Clean.{exact_none}
 use Rattle.capture.proofs.act.call.Goals as goal
 
 -- a call that leaves packet memory

@@ -1,5 +1,6 @@
 use Rattle.std.proofs.Common.{◌-◌, refl, arith, length-set}
-use Rattle.wire.specs.Tab.{tab, tab-turn, tab-filled}
+use Rattle.wire.specs.Tab.{tab}
+use Rattle.wire.proofs.TabLaws.{tab-turn, tab-filled}
 use Rattle.capture.specs.Command.{ids_of}
 use Rattle.capture.proofs.command.ids.Goals as goal
 

@@ -1,6 +1,6 @@
 -- Why `size` meets its contract: by the letter.
 use Rattle.std.proofs.Common.{sym, ◌∙◌, arith}
-use Rattle.capture.specs.Command.{size_none, size-by}
+use Rattle.capture.proofs.CommandLaws.{size_none, size-by}
 use Rattle.capture.proofs.command.size.Goals as goal
 
 pub returns-then-b-eq0 : goal.returns-then-b-eq0

@@ -1,6 +1,6 @@
 -- Why `slot_size` meets its contract: the length is there, or not yet.
 use Rattle.std.proofs.Common.{sym, arith}
-use Rattle.capture.specs.Command.{slot-size-short, slot-size-known}
+use Rattle.capture.proofs.CommandLaws.{slot-size-short, slot-size-known}
 use Rattle.capture.proofs.command.slot_size.Goals as goal
 
 pub returns-then-b-lt3 : goal.returns-then-b-lt3

@@ -1,7 +1,7 @@
 -- Why `begin` meets its contract: the words are too few, or hold a fresh receiver.
 use Rattle.std.proofs.Common.{refl, arith}
 use Rattle.capture.specs.Session.{fresh_session}
-use Rattle.state.specs.Clean.{exact_none}
+use Rattle.state.proofs.Clean.{exact_none}
 use Rattle.capture.proofs.finish.begin.Goals as goal
 
 pub returns-then-words-ge-STATE_WORDS : goal.returns-then-words-ge-STATE_WORDS

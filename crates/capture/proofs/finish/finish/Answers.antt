@@ -1,7 +1,7 @@
 -- Why `finish` meets its contract: there is room for the line, or not.
 use Rattle.std.proofs.Common.{◌+◌, length, sym, ◌∙◌, arith, leb-true}
 use borrow.Author.Tests.{not-true, not-false}
-use Rattle.capture.specs.Steps.{finish_full, finish_line}
+use Rattle.capture.proofs.StepsLaws.{finish_full, finish_line}
 use Rattle.lines.specs.Line.{longest_line}
 use Rattle.capture.proofs.finish.finish.Goals as goal
 

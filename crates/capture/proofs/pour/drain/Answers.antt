@@ -1,11 +1,12 @@
 use Rattle.std.proofs.Common.{◌≡◌, true, length, sym, refl, ◌∙◌, leb-true}
 use borrow.Author.Tests.{not-true, not-false}
-use Rattle.receiver.specs.Next.{short-room}
-use Rattle.capture.specs.Words.{closed_in}
+use Rattle.receiver.proofs.NextLaws.{short-room}
+use Rattle.capture.proofs.WordsLaws.{closed_in}
 use Rattle.capture.specs.declared.session.Session.{Session}
 use Rattle.capture.specs.declared.session.Tally.{Tally}
-use Rattle.capture.specs.Steps.{roomy, pour_line, pour_last, pour_full, drains-paid, drains-on, drains-falls}
-use Rattle.state.specs.Clean.{exact_none, exact-on}
+use Rattle.capture.specs.Steps.{roomy}
+use Rattle.capture.proofs.StepsLaws.{pour_line, pour_last, pour_full, drains-paid, drains-on, drains-falls}
+use Rattle.state.proofs.Clean.{exact_none, exact-on}
 use Rattle.capture.proofs.pour.drain.Goals as goal
 
 -- the session in a turn, beside the state memory

@@ -7,8 +7,9 @@ use Rattle.capture.specs.declared.session.Session.{Session}
 use Rattle.capture.specs.declared.session.Progress.{Progress}
 use Rattle.capture.specs.Session.{progress_in}
 use Rattle.capture.specs.Words.{PoursOr}
-use Rattle.capture.specs.Steps.{Poured, pour_idle, pour_full, pour_short}
-use Rattle.state.specs.Clean.{exact_none}
+use Rattle.capture.specs.Steps.{Poured}
+use Rattle.capture.proofs.StepsLaws.{pour_idle, pour_full, pour_short}
+use Rattle.state.proofs.Clean.{exact_none}
 use Rattle.capture.proofs.pour.pour.Goals as goal
 
 -- the words suffice

@@ -1,6 +1,6 @@
 -- Why `put_event` meets its contract: by the event.
 use Rattle.std.proofs.Common.{sym, arith}
-use Rattle.lines.specs.Text.{wrote_none, put-within}
+use Rattle.lines.proofs.TextLaws.{wrote_none, put-within}
 use Rattle.capture.specs.Capture.{event_line}
 use Rattle.capture.proofs.pour.put_event.Goals as goal
 

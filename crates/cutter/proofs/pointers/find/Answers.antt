@@ -3,7 +3,7 @@ use mathlib.Core.Path.{refl, ◌∙◌}
 use native.Mathlib.Omega.{arith}
 use lib.ListN.{length}
 use borrow.Author.Rules.{rules}
-use Rattle.tlv.specs.Cuts.{cut-sized}
+use Rattle.tlv.proofs.CutsLaws.{cut-sized}
 use Rattle.cutter.specs.Pointers.{top_of, last_of, pointers_of}
 use Rattle.cutter.proofs.Packets.{fits-here, whole-next, top-next, last-next}
 use Rattle.cutter.proofs.Places.{top-done, last_done}

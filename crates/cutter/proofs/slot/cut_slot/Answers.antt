@@ -10,7 +10,8 @@ use Rattle.wire.specs.Memory.{pasted}
 use borrow.Author.Rules.{rules}
 use Rattle.tlv.specs.Packet.{cut}
 use Rattle.cutter.specs.Pointers.{pointers_of}
-use Rattle.cutter.specs.Slot.{cut_refusal, slot_at, accepted, slot-within, slot-refused, slot-cut}
+use Rattle.cutter.specs.Slot.{cut_refusal, slot_at}
+use Rattle.cutter.proofs.SlotLaws.{accepted, slot-within, slot-refused, slot-cut}
 use Rattle.cutter.proofs.Packets.{whole-good}
 use Rattle.cutter.proofs.Table.{listed_bounds}
 use Rattle.cutter.proofs.slot.cut_slot.Goals as goal

@@ -2,7 +2,8 @@ use mathlib.Core.Path.{◌≡◌, refl, sym, ◌∙◌}
 use native.Mathlib.Omega.{arith}
 use borrow.Author.Tests.{eq-eqb, ne_eqb}
 use borrow.Author.Rules.{rules}
-use Rattle.tmcc.specs.Count.{all_below, all_one, all-below-false}
+use Rattle.tmcc.specs.Count.{all_below}
+use Rattle.tmcc.proofs.CountLaws.{all_one, all-below-false}
 use Rattle.cutter.specs.Slot.{unlisted}
 use Rattle.cutter.proofs.slot.is_unlisted.Goals as goal
 

@@ -1,6 +1,6 @@
 -- Why is_whole meets its contract: the walk from byte 0 is the cut, and it comes to the end only without a tail.
 use mathlib.Core.Path.{sym, ◌∙◌}
-use Rattle.tlv.specs.Walks.{unmarked_bad, tail-good}
+use Rattle.tlv.proofs.Walks.{unmarked_bad, tail-good}
 use Rattle.cutter.proofs.Packets.{bad-whole, end_whole}
 use Rattle.cutter.proofs.slot.is_whole.Goals as goal
 

@@ -4,7 +4,8 @@ use mathlib.Core.Path.{◌≡◌, sym, ◌∙◌}
 use mathlib.Core.Bool.{false}
 use native.Mathlib.Nat.{le-div_iff_mul-le, div-lt_iff_lt-mul}
 use native.Mathlib.Omega.{arith}
-use Rattle.cutter.specs.Slot.{unlisted, refused-run, refused-length, refused-past, refused-output, accepts}
+use Rattle.cutter.specs.Slot.{unlisted}
+use Rattle.cutter.proofs.SlotLaws.{refused-run, refused-length, refused-past, refused-output, accepts}
 use Rattle.cutter.proofs.Table.{listed_bounds}
 use Rattle.cutter.proofs.slot.refusal.Goals as goal
 

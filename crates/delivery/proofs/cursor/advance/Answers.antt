@@ -1,5 +1,5 @@
 -- Why `advance` meets its contract: the slot's note, the packet that it completed, its packets, in this order.
-use Rattle.delivery.specs.Cursor.{advanced_note, advanced_packet, advanced_slot, advanced_done}
+use Rattle.delivery.proofs.CursorLaws.{advanced_note, advanced_packet, advanced_slot, advanced_done}
 use mathlib.Core.Path.{sym, ◌∙◌}
 use Rattle.delivery.proofs.cursor.advance.Goals as goal
 

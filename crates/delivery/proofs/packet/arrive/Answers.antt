@@ -2,10 +2,13 @@
 use lib.ListN.{length}
 use Prim.Native.Nat.{◌<◌, ◌≤◌, ◌+◌, ◌-◌}
 use native.Mathlib.Omega.{arith}
-use Rattle.wire.specs.Memory.{part-within, part_of, slice-rest}
-use Rattle.words.specs.Config.{read_config, watch-is}
-use Rattle.delivery.specs.Packet.{arrived-silent, arrived-noted, arrived_mmtp}
-use Rattle.mmtp.specs.Flow.{flow_of, mmtp_place}
+use Rattle.wire.specs.Memory.{part_of}
+use Rattle.wire.proofs.MemoryLaws.{part-within, slice-rest}
+use Rattle.words.specs.Config.{read_config}
+use Rattle.words.proofs.ConfigLaws.{watch-is}
+use Rattle.delivery.proofs.PacketLaws.{arrived-silent, arrived-noted, arrived_mmtp}
+use Rattle.mmtp.specs.Flow.{flow_of}
+use Rattle.mmtp.proofs.FlowLaws.{mmtp_place}
 use mathlib.Core.Path.{◌≡◌, sym, ◌∙◌}
 use borrow.Author.Rules.{rules}
 use Rattle.delivery.proofs.packet.arrive.Goals as goal

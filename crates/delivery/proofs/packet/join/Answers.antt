@@ -5,11 +5,11 @@ use mathlib.Core.Path.{◌≡◌}
 use native.Mathlib.Omega.{arith}
 use lib.ListN.{length}
 use Rattle.words.specs.Channel.{read_channel}
-use Rattle.wire.specs.Memory.{part-reach}
-use Rattle.delivery.specs.Within.{joined-reach, first-inside, joined-room}
+use Rattle.wire.proofs.MemoryLaws.{part-reach}
+use Rattle.delivery.proofs.WithinLaws.{joined-reach, first-inside, joined-room}
 use Rattle.delivery.specs.Packet.{bytes_at, unit_in, step_of}
 use Rattle.delivery.specs.Words.{channel_place}
-use Rattle.delivery.specs.Joining.{joins-by}
+use Rattle.delivery.proofs.Joining.{joins-by}
 use borrow.Author.Rules.{rules}
 use Rattle.delivery.proofs.packet.join.Goals as goal
 

@@ -1,5 +1,5 @@
 -- Why keep meets its contract: of FI 00 the phase and the psn are stored, and otherwise all of the state.
-use Rattle.delivery.specs.Joining.{keeps-heard, keeps-stored}
+use Rattle.delivery.proofs.Joining.{keeps-heard, keeps-stored}
 use Rattle.delivery.proofs.packet.keep.Goals as goal
 
 pub returns-in-Whole : goal.returns-in-Whole

@@ -1,8 +1,8 @@
 -- Why receive meets its contract: silent, noted, or joined.
 use mathlib.Core.Path.{sym, ◌∙◌}
 use Rattle.delivery.specs.declared.packet.Arrived.TheVariants.{Good}
-use Rattle.delivery.specs.Within.{arrived-place, arrived-fits}
-use Rattle.delivery.specs.Joining.{receives_silent, receives_noted, receives_good}
+use Rattle.delivery.proofs.WithinLaws.{arrived-place, arrived-fits}
+use Rattle.delivery.proofs.Joining.{receives_silent, receives_noted, receives_good}
 use Rattle.words.specs.Config.{read_config}
 use Rattle.delivery.proofs.packet.receive.Goals as goal
 

@@ -1,5 +1,5 @@
 -- Why `store_piece` meets its contract: the data unit's bytes are copied.
-use Rattle.wire.specs.Memory.{pasted-take}
+use Rattle.wire.proofs.MemoryLaws.{pasted-take}
 use lib.ListN.{length, drop, length-drop}
 use Prim.Native.Nat.{◌-◌, ◌≤◌}
 use mathlib.Core.Path.{◌∙◌}

@@ -8,8 +8,9 @@ use lib.ListN.{length}
 use Rattle.lines.specs.Line.{longest_line}
 use Rattle.capture.specs.Command.{longest_command}
 use Rattle.capture.specs.Session.{Session, session_in}
-use Rattle.feeding.specs.Feed.{World, goes_by, goes-room, goes-read, taken-by, source_some, turn_by_lem, fed_from, fed-turn, fed-stops, fed-short, fed-long}
-use Rattle.state.specs.Clean.{exact_none, exact-on}
+use Rattle.feeding.specs.Feed.{World, goes_by, fed_from}
+use Rattle.feeding.proofs.FeedLaws.{goes-room, goes-read, taken-by, source_some, turn_by_lem, fed-turn, fed-stops, fed-short, fed-long}
+use Rattle.state.proofs.Clean.{exact_none, exact-on}
 use Rattle.feeding.proofs.feed.feed.Goals as goal
 
 abbrev world : Session → ℕ → List ℕ → ℕ → List ℕ → List ℕ → List ℕ → ℕ → World

@@ -2,7 +2,7 @@
 use mathlib.Core.Path.{sym}
 use native.Mathlib.Omega.{arith}
 use lib.Seq.{length-take-le}
-use Rattle.feeding.specs.Feed.{gathered-by}
+use Rattle.feeding.proofs.FeedLaws.{gathered-by}
 use Rattle.feeding.proofs.feed.gather.Goals as goal
 
 pub slice_bounds-wanted-end-2 : goal.slice_bounds-wanted-end-2

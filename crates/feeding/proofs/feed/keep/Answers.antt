@@ -1,7 +1,7 @@
 -- Why `keep` meets its contract: by the length of the command that they begin.
 use mathlib.Core.Path.{sym}
 use lib.Seq.{length-take-le}
-use Rattle.feeding.specs.Feed.{kept-past, kept-all, kept-none, keeps-all, keeps-none}
+use Rattle.feeding.proofs.FeedLaws.{kept-past, kept-all, kept-none, keeps-all, keeps-none}
 use Rattle.feeding.proofs.feed.keep.Goals as goal
 
 pub returns-then-command-held : goal.returns-then-command-held

@@ -1,7 +1,7 @@
 -- Why `run` meets its contract: the command is not whole, or is carried out.
 use mathlib.Core.Path.{sym}
-use Rattle.feeding.specs.Feed.{ran-part, ran-whole}
-use Rattle.state.specs.Clean.{exact_none, exact-on}
+use Rattle.feeding.proofs.FeedLaws.{ran-part, ran-whole}
+use Rattle.state.proofs.Clean.{exact_none, exact-on}
 use Rattle.feeding.proofs.feed.run.Goals as goal
 
 pub returns-then-b-n : goal.returns-then-b-n

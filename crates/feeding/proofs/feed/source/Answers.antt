@@ -1,7 +1,7 @@
 -- Why `source` meets its contract: the block's bytes, or those that were gathered.
 use mathlib.Core.Path.{sym}
 use lib.Seq.{length-take-le}
-use Rattle.feeding.specs.Feed.{source_block, source_gathered}
+use Rattle.feeding.proofs.FeedLaws.{source_block, source_gathered}
 use Rattle.feeding.proofs.feed.source.Goals as goal
 
 pub returns-then-gathered-eq0 : goal.returns-then-gathered-eq0

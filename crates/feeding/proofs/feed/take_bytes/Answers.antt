@@ -1,7 +1,7 @@
 -- Why `take_bytes` meets its contract: bytes are held, the command is not whole in the block, or it is.
 use mathlib.Core.Path.{sym, ◌∙◌}
-use Rattle.wire.specs.Memory.{slice-rest}
-use Rattle.feeding.specs.Feed.{taken-whole, taken-held, taken-part}
+use Rattle.wire.proofs.MemoryLaws.{slice-rest}
+use Rattle.feeding.proofs.FeedLaws.{taken-whole, taken-held, taken-part}
 use Rattle.feeding.proofs.feed.take_bytes.Goals as goal
 
 pub returns-then-held-ne0 : goal.returns-then-held-ne0

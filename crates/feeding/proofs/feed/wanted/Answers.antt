@@ -1,7 +1,7 @@
 -- Why `wanted` meets its contract: nothing is held, or the rest of the command is wanted.
 use mathlib.Core.Path.{sym}
 use native.Mathlib.Omega.{arith}
-use Rattle.feeding.specs.Feed.{wanted_first, wanted_rest}
+use Rattle.feeding.proofs.FeedLaws.{wanted_first, wanted_rest}
 use Rattle.feeding.proofs.feed.wanted.Goals as goal
 
 pub returns-then-b-eq0 : goal.returns-then-b-eq0

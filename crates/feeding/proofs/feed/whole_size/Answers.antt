@@ -1,7 +1,7 @@
 -- Why `whole_size` meets its contract, case by case.
 use mathlib.Core.Path.{sym, ◌∙◌}
 use native.Mathlib.Omega.{arith}
-use Rattle.feeding.specs.Feed.{whole-none, whole_unknown, whole_part, whole-known}
+use Rattle.feeding.proofs.FeedLaws.{whole-none, whole_unknown, whole_part, whole-known}
 use Rattle.feeding.proofs.feed.whole_size.Goals as goal
 
 pub returns-then-b-eq0 : goal.returns-then-b-eq0

@@ -1,9 +1,9 @@
 -- Why frame meets its contract: each return is one case of the definition.
 use mathlib.Core.Path.{refl, sym, ◌∙◌, ap}
 use Rattle.tmcc.specs.Block.{decode_of}
-use Rattle.state.specs.Lent.{stream_in}
-use Rattle.state.specs.Leaves.{leaves-short, leaves-refused, leaves-accepted}
-use Rattle.frames.specs.Frame.{frame-short, frame-busy, frame_refused, frame-accepted}
+use Rattle.state.proofs.LentLaws.{stream_in}
+use Rattle.state.proofs.Leaves.{leaves-short, leaves-refused, leaves-accepted}
+use Rattle.frames.proofs.FrameLaws.{frame-short, frame-busy, frame_refused, frame-accepted}
 use Rattle.state.specs.State.{Called}
 use Rattle.frames.proofs.frame.frame.Goals as goal
 

@@ -1,7 +1,7 @@
 -- Why is_busy meets its contract: slots are due, or what is owed decides.
 use mathlib.Core.Path.{sym}
 use Rattle.wire.specs.Words.{flag_of}
-use Rattle.frames.specs.Frame.{slots-due, none-due}
+use Rattle.frames.proofs.FrameLaws.{slots-due, none-due}
 use Rattle.state.specs.Words.{state_in}
 use Rattle.frames.proofs.frame.is_busy.Goals as goal
 

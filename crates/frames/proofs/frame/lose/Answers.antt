@@ -3,11 +3,11 @@ use mathlib.Core.Bool.{true}
 use mathlib.Core.Path.{◌∙◌, ap}
 use native.Mathlib.Omega.{arith}
 use Rattle.wire.specs.Words.{flag_of}
-use Rattle.state.specs.Lent.{state-owed}
+use Rattle.state.proofs.LentLaws.{state-owed}
 use Rattle.frames.specs.Frame.{loss_of}
 use Rattle.state.specs.Words.{state_in}
 use Rattle.state.specs.State.{State, with_owed}
-use Rattle.state.specs.Clean.{exact-on, exact-owed}
+use Rattle.state.proofs.Clean.{exact-on, exact-owed}
 use Rattle.frames.proofs.frame.lose.Goals as goal
 
 pub returns : goal.returns

@@ -1,7 +1,7 @@
 -- Why lost_frame meets its contract: each return is one case of the definition.
 use mathlib.Core.Path.{refl, sym, ◌∙◌, ap}
-use Rattle.state.specs.Leaves.{leaves-short, leaves-refused, leaves-accepted}
-use Rattle.frames.specs.Frame.{lost-frame-busy, lost-frame-accepted}
+use Rattle.state.proofs.Leaves.{leaves-short, leaves-refused, leaves-accepted}
+use Rattle.frames.proofs.FrameLaws.{lost-frame-busy, lost-frame-accepted}
 use Rattle.state.specs.State.{Called}
 use Rattle.frames.proofs.frame.lost_frame.Goals as goal
 

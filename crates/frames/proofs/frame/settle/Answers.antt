@@ -1,5 +1,5 @@
 -- Why settle meets its contract: the held bytes and the cursor are stored.
-use Rattle.state.specs.Leaves.{state_intake}
+use Rattle.state.proofs.Leaves.{state_intake}
 use Rattle.frames.proofs.frame.settle.Goals as goal
 
 pub returns : goal.returns

@@ -4,11 +4,11 @@ use mathlib.Core.Path.{◌∙◌, ap}
 use native.Mathlib.Omega.{arith}
 use lib.ListN.{length-set}
 use Rattle.wire.specs.Words.{flag_of}
-use Rattle.state.specs.Lent.{state-at, state-owed}
+use Rattle.state.proofs.LentLaws.{state-at, state-owed}
 use Rattle.frames.specs.Slot.{counted}
 use Rattle.state.specs.Words.{state_in}
 use Rattle.state.specs.State.{State, with_owed}
-use Rattle.state.specs.Clean.{exact-on, exact-owed, exact-at}
+use Rattle.state.proofs.Clean.{exact-on, exact-owed, exact-at}
 use Rattle.frames.proofs.slot.count.Goals as goal
 
 pub overflow_add-words : goal.overflow_add-words

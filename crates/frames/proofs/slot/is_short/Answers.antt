@@ -4,7 +4,7 @@ use native.Mathlib.Omega.{arith}
 use native.Mathlib.Nat.{mul-zero}
 use Rattle.watch.specs.Words.{rising_in}
 use Rattle.words.specs.Config.{read_config}
-use Rattle.frames.specs.Slot.{packet-short, long-enough, short-by_quotient}
+use Rattle.frames.proofs.SlotLaws.{packet-short, long-enough, short-by_quotient}
 use Rattle.state.specs.Words.{state_in}
 use Rattle.frames.proofs.slot.is_short.Goals as goal
 

@@ -3,10 +3,11 @@ use Prim.Native.Nat.{◌≤◌}
 use mathlib.Core.Path.{◌≡◌, refl, sym, ◌∙◌, ap}
 use lib.ListN.{length}
 use borrow.Author.Tests.{not-true, not-false}
-use Rattle.frames.specs.Slot.{slot_refusal, Ready, lost-refused, lost-not-own, lost-own, ready}
+use Rattle.frames.specs.Slot.{slot_refusal, Ready}
+use Rattle.frames.proofs.SlotLaws.{lost-refused, lost-not-own, lost-own, ready}
 use Rattle.state.specs.Words.{state_words, state_in}
-use Rattle.frames.specs.Due.{due-first, due-own}
-use Rattle.state.specs.Leaves.{sets-on, leaves-short, leaves-refused, leaves-accepted}
+use Rattle.frames.proofs.Due.{due-first, due-own}
+use Rattle.state.proofs.Leaves.{sets-on, leaves-short, leaves-refused, leaves-accepted}
 use Rattle.frames.specs.Frame.{loss_of}
 use Rattle.state.specs.State.{Called}
 use Rattle.frames.proofs.slot.lost_slot.Goals as goal

@@ -1,7 +1,7 @@
 -- Why refusal meets its contract: the tests, in their order.
 use mathlib.Core.Path.{sym, ◌∙◌}
-use Rattle.state.specs.Lent.{owed-on, owed_off}
-use Rattle.frames.specs.Slot.{refused-none-due, refused-owed, refused-short, refused_none}
+use Rattle.state.proofs.LentLaws.{owed-on, owed_off}
+use Rattle.frames.proofs.SlotLaws.{refused-none-due, refused-owed, refused-short, refused_none}
 use Rattle.state.specs.Words.{state_in}
 use Rattle.frames.proofs.slot.refusal.Goals as goal
 

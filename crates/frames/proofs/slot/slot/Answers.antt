@@ -5,9 +5,10 @@ use mathlib.Core.Path.{◌≡◌, refl, sym, ◌∙◌}
 use native.Mathlib.Omega.{arith}
 use lib.ListN.{length}
 use borrow.Author.Tests.{not-true, not-false}
-use Rattle.state.specs.Leaves.{sets-on, leaves-short, leaves-refused, leaves-accepted}
-use Rattle.frames.specs.Due.{due-first, due_wrong, due-own, due-pointers, slot-settled}
-use Rattle.frames.specs.Slot.{slot_refusal, due_length, wrong_length, Ready, ready, right-length, slot-refused, slot_wrong_length, slot-not-own}
+use Rattle.state.proofs.Leaves.{sets-on, leaves-short, leaves-refused, leaves-accepted}
+use Rattle.frames.proofs.Due.{due-first, due_wrong, due-own, due-pointers, slot-settled}
+use Rattle.frames.specs.Slot.{slot_refusal, due_length, wrong_length, Ready}
+use Rattle.frames.proofs.SlotLaws.{ready, right-length, slot-refused, slot_wrong_length, slot-not-own}
 use Rattle.state.specs.Words.{state_words, state_in}
 use Rattle.state.specs.State.{State, with_intake}
 use Rattle.frames.proofs.slot.slot.Goals as goal

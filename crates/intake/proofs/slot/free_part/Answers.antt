@@ -5,7 +5,8 @@ use lib.Dec.{ltb}
 use mathlib.Core.Bool.{cond}
 use Prim.Native.Nat.{◌-◌}
 use Rattle.intake.specs.Slot.{slot_area}
-use Rattle.intake.specs.Early.{free_part, free_all, free-none, free-below}
+use Rattle.intake.specs.Early.{free_part}
+use Rattle.intake.proofs.EarlyLaws.{free_all, free-none, free-below}
 use Rattle.intake.proofs.slot.free_part.Goals as goal
 
 pub returns-then-not-held : goal.returns-then-not-held

@@ -1,7 +1,7 @@
 -- Why move_held meets its contract: nothing to move, or the bytes that are held.
 use mathlib.Core.Path.{sym, ◌∙◌}
 use native.Mathlib.Omega.{arith}
-use Rattle.wire.specs.Memory.{pasted-zero}
+use Rattle.wire.proofs.MemoryLaws.{pasted-zero}
 use Rattle.intake.specs.Slot.{moved_mem}
 use Rattle.intake.proofs.SlotLaws.{part_room}
 use Rattle.intake.proofs.slot.move_held.Goals as goal

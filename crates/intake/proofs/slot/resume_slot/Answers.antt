@@ -3,7 +3,8 @@ use Prim.Native.Nat.{◌+◌, ◌≤◌}
 use mathlib.Core.Path.{sym, ◌∙◌}
 use native.Mathlib.Omega.{arith}
 use lib.ListN.{length}
-use Rattle.intake.specs.Slot.{held_len, resumed_as, resumed_mem, resumed}
+use Rattle.intake.specs.Slot.{held_len, resumed_as, resumed_mem}
+use Rattle.intake.proofs.SlotFacts.{resumed}
 use Rattle.intake.proofs.SlotLaws.{held_fits, ends-room, goes-on-room}
 use Rattle.intake.proofs.slot.resume_slot.Goals as goal
 

@@ -1,7 +1,7 @@
 -- Why settle meets its contract: each return is one case of the definition.
 use mathlib.Core.Path.{sym, ◌∙◌}
 use borrow.Author.Tests.{not-true, not-false}
-use Rattle.intake.specs.Slot.{settled_unsound, settled-searching, settled-held}
+use Rattle.intake.proofs.SlotFacts.{settled_unsound, settled-searching, settled-held}
 use Rattle.intake.proofs.slot.settle.Goals as goal
 
 pub returns-then-not-is_sound : goal.returns-then-not-is_sound

@@ -4,7 +4,7 @@ use native.Mathlib.Omega.{arith}
 use native.Mathlib.Nat.{sub-zero}
 use lib.ListN.{length, length-drop}
 use lib.Seq.{length-take-le}
-use Rattle.wire.specs.Memory.{slice-rest}
+use Rattle.wire.proofs.MemoryLaws.{slice-rest}
 use Rattle.intake.proofs.EarlyCopies.{free-most, taken_in_parts}
 use Rattle.intake.proofs.slot.take.Goals as goal
 

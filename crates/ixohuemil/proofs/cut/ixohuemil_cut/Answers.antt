@@ -1,6 +1,6 @@
 -- Why `ixohuemil_cut` meets its contract: refused it stores nothing, else the pointers.
 use mathlib.Core.Path.{sym}
-use Rattle.ixohuemil.specs.Answers.{cut-taken, cut_left}
+use Rattle.ixohuemil.proofs.AnswersLaws.{cut-taken, cut_left}
 use Rattle.ixohuemil.proofs.cut.ixohuemil_cut.Goals as goal
 
 pub returns-in-Refused : goal.returns-in-Refused

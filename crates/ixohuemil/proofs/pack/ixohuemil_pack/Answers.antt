@@ -2,8 +2,8 @@
 use mathlib.Core.Path.{sym, ◌∙◌}
 use native.Mathlib.Omega.{arith}
 use borrow.Author.Tests.{not-true, not-false}
-use Rattle.calls.specs.Record.{unit-length}
-use Rattle.ixohuemil.specs.Answers.{pack_unit, pack_other, pack_taken, pack_left}
+use Rattle.calls.proofs.RecordLaws.{unit-length}
+use Rattle.ixohuemil.proofs.AnswersLaws.{pack_unit, pack_other, pack_taken, pack_left}
 use Rattle.ixohuemil.proofs.pack.ixohuemil_pack.Goals as goal
 
 pub returns-then-not-is_unit : goal.returns-then-not-is_unit

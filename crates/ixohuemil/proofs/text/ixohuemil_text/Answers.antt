@@ -1,6 +1,6 @@
 -- Why `ixohuemil_text` meets its contract: the capture is fed at once, and then the last line is written.
 use native.Mathlib.Omega.{arith}
-use Rattle.ixohuemil.specs.Text.{text-call}
+use Rattle.ixohuemil.proofs.TextLaws.{text-call}
 use Rattle.ixohuemil.proofs.text.ixohuemil_text.Goals as goal
 
 pub returns : goal.returns

@@ -1,7 +1,7 @@
 -- Why `count_groups` meets its contract: each test is one of a number with a group fewer.
 use Prim.Native.Nat.{◌/◌}
 use native.Mathlib.Omega.{arith}
-use Rattle.lines.specs.Decimal.{groups_none, groups-more, groups-end}
+use Rattle.lines.proofs.DecimalLaws.{groups_none, groups-more, groups-end}
 use Rattle.lines.proofs.decimal.count_groups.Goals as goal
 
 pub returns-then-n-lt100000000 : goal.returns-then-n-lt100000000

@@ -4,8 +4,9 @@ use mathlib.Core.Path.{◌≡◌}
 use mathlib.Core.List.{◌++◌}
 use native.Mathlib.Omega.{arith}
 use lib.ListN.{length, length-append}
-use Rattle.lines.specs.Decimal.{decimal, without_groups, groups, last_groups, groups-first, groups-behind, length-groups}
-use Rattle.lines.specs.Text.{written-room, written-more}
+use Rattle.lines.specs.Decimal.{decimal, without_groups, groups, last_groups}
+use Rattle.lines.proofs.DecimalLaws.{groups-first, groups-behind, length-groups}
+use Rattle.lines.proofs.TextLaws.{written-room, written-more}
 use Rattle.lines.proofs.decimal.put_decimal.Goals as goal
 
 -- the number is `a` and the last `k` groups

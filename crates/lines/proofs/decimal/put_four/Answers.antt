@@ -1,7 +1,8 @@
 -- Why `put_four` meets its contract: one pair behind the other.
 use native.Mathlib.Omega.{arith}
-use Rattle.lines.specs.Decimal.{four, length-pair}
-use Rattle.lines.specs.Text.{written-room, written-more}
+use Rattle.lines.specs.Decimal.{four}
+use Rattle.lines.proofs.DecimalLaws.{length-pair}
+use Rattle.lines.proofs.TextLaws.{written-room, written-more}
 use Rattle.lines.proofs.decimal.put_four.Goals as goal
 
 pub put_pair-requires : goal.put_pair-requires

@@ -3,8 +3,10 @@ use mathlib.Core.Path.{◌≡◌, refl, sym, ◌∙◌}
 use mathlib.Core.List.{List}
 use native.Mathlib.Omega.{arith}
 use lib.ListN.{length}
-use Rattle.lines.specs.Decimal.{four, without_groups, last_groups, length-four, length-groups}
-use Rattle.lines.specs.Text.{wrote, wrote_none, written-length, written-room, written-more}
+use Rattle.lines.specs.Decimal.{four, without_groups, last_groups}
+use Rattle.lines.proofs.DecimalLaws.{length-four, length-groups}
+use Rattle.lines.specs.Text.{wrote}
+use Rattle.lines.proofs.TextLaws.{wrote_none, written-length, written-room, written-more}
 use Rattle.lines.proofs.decimal.put_groups.Goals as goal
 
 record Goes (out₀ : List ℕ) (at n k : ℕ) (out : List ℕ) (left end : ℕ) : Type 0 where

@@ -2,7 +2,7 @@
 use native.Mathlib.Omega.{arith}
 use lib.ListN.{length-set}
 use Rattle.lines.specs.Decimal.{pair}
-use Rattle.lines.specs.Text.{wrote_two}
+use Rattle.lines.proofs.TextLaws.{wrote_two}
 use Rattle.lines.proofs.decimal.put_pair.Goals as goal
 
 pub bounds-out-at-2 : goal.bounds-out-at-2

@@ -3,8 +3,9 @@ use Prim.Native.Nat.{ℕ, ◌+◌, ◌/◌, ◌%◌, ◌<◌, ◌≤◌}
 use mathlib.Core.Path.{◌≡◌}
 use native.Mathlib.Omega.{arith}
 use lib.ListN.{length, length-append}
-use Rattle.lines.specs.Decimal.{decimal, decimal-pair, length-pair}
-use Rattle.lines.specs.Text.{written-room, written-more}
+use Rattle.lines.specs.Decimal.{decimal}
+use Rattle.lines.proofs.DecimalLaws.{decimal-pair, length-pair}
+use Rattle.lines.proofs.TextLaws.{written-room, written-more}
 use Rattle.lines.proofs.decimal.put_short.Goals as goal
 
 behind : (n : ℕ) → 100 ≤ n → n < 10000 → length (decimal n) ≡ length (decimal (n / 100)) + 2

@@ -3,8 +3,9 @@ use Prim.Native.Nat.{ℕ, ◌<◌}
 use mathlib.Core.Path.{◌≡◌}
 use native.Mathlib.Omega.{arith}
 use lib.ListN.{length}
-use Rattle.lines.specs.Decimal.{decimal, decimal-one, decimal_two, length-pair}
-use Rattle.lines.specs.Text.{wrote-byte}
+use Rattle.lines.specs.Decimal.{decimal}
+use Rattle.lines.proofs.DecimalLaws.{decimal-one, decimal_two, length-pair}
+use Rattle.lines.proofs.TextLaws.{wrote-byte}
 use Rattle.lines.proofs.decimal.put_two.Goals as goal
 
 one-digit : (n : ℕ) → n < 10 → length (decimal n) ≡ 1

@@ -1,7 +1,7 @@
 -- Why `put_carried` meets its contract: each part stands behind the one before.
 use native.Mathlib.Omega.{arith}
 use Rattle.lines.specs.Line.{carried_text}
-use Rattle.lines.specs.Text.{put_four}
+use Rattle.lines.proofs.TextLaws.{put_four}
 use Rattle.lines.proofs.line.put_carried.Goals as goal
 
 pub returns : goal.returns

@@ -1,7 +1,7 @@
 -- Why `put_end` meets its contract: each part stands behind the one before.
 use native.Mathlib.Omega.{arith}
 use Rattle.lines.specs.Line.{end_line}
-use Rattle.lines.specs.Text.{put_four}
+use Rattle.lines.proofs.TextLaws.{put_four}
 use Rattle.lines.proofs.line.put_end.Goals as goal
 
 pub returns : goal.returns

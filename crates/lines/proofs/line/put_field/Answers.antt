@@ -3,9 +3,9 @@ use Prim.Native.Nat.{◌<◌}
 use mathlib.Core.List.{◌∷◌}
 use native.Mathlib.Omega.{arith}
 use lib.ListN.{length}
-use Rattle.lines.specs.Decimal.{decimal-20}
+use Rattle.lines.proofs.DecimalLaws.{decimal-20}
 use Rattle.lines.specs.Line.{field}
-use Rattle.lines.specs.Text.{wrote-byte, written-end, written-length, written-more}
+use Rattle.lines.proofs.TextLaws.{wrote-byte, written-end, written-length, written-more}
 use Rattle.lines.proofs.line.put_field.Goals as goal
 
 -- there is room for the character behind it

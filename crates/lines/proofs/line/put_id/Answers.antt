@@ -1,7 +1,7 @@
 -- Why `put_id` meets its contract: by the note's number.
 use native.Mathlib.Omega.{arith}
-use Rattle.lines.specs.Line.{id-none, id-some}
-use Rattle.lines.specs.Text.{put-within}
+use Rattle.lines.proofs.LineLaws.{id-none, id-some}
+use Rattle.lines.proofs.TextLaws.{put-within}
 use Rattle.lines.proofs.line.put_id.Goals as goal
 
 pub returns-then-note-le51 : goal.returns-then-note-le51

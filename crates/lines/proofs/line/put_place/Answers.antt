@@ -1,7 +1,7 @@
 -- Why `put_place` meets its contract: each part stands behind the one before.
 use native.Mathlib.Omega.{arith}
 use Rattle.lines.specs.Line.{place_text}
-use Rattle.lines.specs.Text.{put-more}
+use Rattle.lines.proofs.TextLaws.{put-more}
 use Rattle.lines.proofs.line.put_place.Goals as goal
 
 pub returns : goal.returns

@@ -2,7 +2,7 @@
 use native.Mathlib.Omega.{arith}
 use borrow.Author.Rules.{rules}
 use Rattle.lines.specs.Line.{refused_line}
-use Rattle.lines.specs.Text.{put-more}
+use Rattle.lines.proofs.TextLaws.{put-more}
 use Rattle.lines.proofs.line.put_refused.Statement.{statement}
 use Rattle.lines.proofs.line.put_refused.Tie as tie
 

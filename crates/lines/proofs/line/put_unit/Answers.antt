@@ -1,7 +1,7 @@
 -- Why `put_unit` meets its contract: each part stands behind the one before.
 use native.Mathlib.Omega.{arith}
 use Rattle.lines.specs.Line.{unit_line}
-use Rattle.lines.specs.Text.{put_four}
+use Rattle.lines.proofs.TextLaws.{put_four}
 use Rattle.lines.proofs.line.put_unit.Goals as goal
 
 pub returns : goal.returns

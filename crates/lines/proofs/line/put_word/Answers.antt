@@ -1,6 +1,6 @@
 -- Why `put_word` meets its contract: the word is copied.
 use native.Mathlib.Omega.{arith}
-use Rattle.lines.specs.Text.{wrote_copy}
+use Rattle.lines.proofs.TextLaws.{wrote_copy}
 use Rattle.lines.proofs.line.put_word.Goals as goal
 
 pub returns : goal.returns

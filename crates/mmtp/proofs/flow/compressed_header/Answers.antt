@@ -1,5 +1,6 @@
 -- Why compressed_header meets its contract: four header types by name, any other is none of them.
-use Rattle.mmtp.specs.Flow.{compressed_header, reserved}
+use Rattle.mmtp.specs.Flow.{compressed_header}
+use Rattle.mmtp.proofs.FlowLaws.{reserved}
 use Rattle.mmtp.proofs.flow.compressed_header.Goals as goal
 
 pub returns-in-32 : goal.returns-in-32

@@ -3,7 +3,7 @@ use Prim.Native.Nat.{◌≤◌}
 use mathlib.Core.Path.{◌≡◌, sym, ◌∙◌}
 use native.Mathlib.Omega.{arith}
 use lib.ListN.{length, get_or, get_or-eq_default}
-use Rattle.mmtp.specs.Flow.{type-3, other-type}
+use Rattle.mmtp.proofs.FlowLaws.{type-3, other-type}
 use Rattle.mmtp.proofs.flow.find.Goals as goal
 
 pub returns-then-packet-lt2 : goal.returns-then-packet-lt2

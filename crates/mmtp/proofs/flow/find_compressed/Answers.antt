@@ -1,6 +1,7 @@
 -- Why find_compressed meets its contract: length, CID, header type and length behind it, in the definition's order.
 use mathlib.Core.Path.{sym, ◌∙◌}
-use Rattle.mmtp.specs.Flow.{behind, under_3-bytes, other-cid, own-cid, start_bounds, behind-cut, behind-whole}
+use Rattle.mmtp.specs.Flow.{behind}
+use Rattle.mmtp.proofs.FlowLaws.{under_3-bytes, other-cid, own-cid, start_bounds, behind-cut, behind-whole}
 use native.Mathlib.Omega.{arith}
 use Rattle.mmtp.proofs.flow.find_compressed.Goals as goal
 

@@ -1,7 +1,7 @@
 -- Why fixed_bytes meets its contract: the shift and the mask take out flag C.
 use mathlib.Core.Path.{sym, ◌∙◌}
-use Rattle.wire.specs.Bits.{bits_shift}
-use Rattle.mmtp.specs.Header.{with-counter, no_counter}
+use Rattle.wire.proofs.BitsLaws.{bits_shift}
+use Rattle.mmtp.proofs.HeaderLaws.{with-counter, no_counter}
 use Rattle.mmtp.proofs.header.fixed_bytes.Goals as goal
 
 pub returns-then-first-eq1 : goal.returns-then-first-eq1

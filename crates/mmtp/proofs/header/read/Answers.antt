@@ -4,10 +4,11 @@ use mathlib.Core.Path.{◌≡◌, sym, ◌∙◌}
 use mathlib.Core.List.{List}
 use native.Mathlib.Omega.{arith}
 use lib.ListN.{length}
-use Rattle.wire.specs.Bits.{bits_shift, bits_mask}
+use Rattle.wire.proofs.BitsLaws.{bits_shift, bits_mask}
 use Rattle.mmtp.specs.declared.header.Start.{Start}
 use Rattle.mmtp.specs.declared.header.Start.TheVariants.{At}
-use Rattle.mmtp.specs.Header.{start_of, plain-good, other_version, other_fec, start-low, start-at, start-short, header-cut, header-other, header-good}
+use Rattle.mmtp.specs.Header.{start_of}
+use Rattle.mmtp.proofs.HeaderLaws.{plain-good, other_version, other_fec, start-low, start-at, start-short, header-cut, header-other, header-good}
 use Rattle.mmtp.proofs.header.read.Goals as goal
 
 -- where the start is found, the packet has the fields

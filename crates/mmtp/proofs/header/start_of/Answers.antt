@@ -3,8 +3,9 @@ use Rattle.std.specs.Prelude.{ℕ, ◌+◌, ◌/◌, ◌^◌, ◌≡◌, List}
 use Rattle.std.proofs.Common.{sym, ◌∙◌, arith}
 use Rattle.std.specs.Int.Bits.{bit_and}
 use Rattle.wire.specs.Field.{be}
-use Rattle.wire.specs.Bits.{bits_shift}
-use Rattle.mmtp.specs.Header.{first, fixed_bytes, extension_length, payload_start, fixed_bounds, no_extension, with_extension, start-low, start-whole, start-cut}
+use Rattle.wire.proofs.BitsLaws.{bits_shift}
+use Rattle.mmtp.specs.Header.{first, fixed_bytes, extension_length, payload_start}
+use Rattle.mmtp.proofs.HeaderLaws.{fixed_bounds, no_extension, with_extension, start-low, start-whole, start-cut}
 use Rattle.mmtp.proofs.header.start_of.Goals as goal
 
 -- X, by a shift and a mask

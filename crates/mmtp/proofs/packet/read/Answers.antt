@@ -1,6 +1,7 @@
 -- Why read meets its contract: header, watch list and payload answer as their definitions do.
 use mathlib.Core.Path.{sym, ◌∙◌}
-use Rattle.mmtp.specs.Packet.{body_read, bad-header, unwatched, watched}
+use Rattle.mmtp.specs.Packet.{body_read}
+use Rattle.mmtp.proofs.PacketLaws.{bad-header, unwatched, watched}
 use Rattle.mmtp.proofs.packet.read.Goals as goal
 
 pub returns-in_default : goal.returns-in_default

@@ -2,10 +2,12 @@
 use Rattle.std.specs.Prelude.{ℕ, ◌+◌, ◌-◌, ◌/◌, ◌^◌, ◌≤◌, ◌≡◌, List, length, get_or, drop, eqb}
 use Rattle.std.proofs.Common.{sym, ◌∙◌, arith, get_or-drop}
 use Rattle.std.specs.Int.Bits.{bit_and}
-use Rattle.wire.specs.Field.{be, be-drop}
-use Rattle.wire.specs.Bits.{bits_shift}
+use Rattle.wire.specs.Field.{be}
+use Rattle.wire.proofs.FieldLaws.{be-drop}
+use Rattle.wire.proofs.BitsLaws.{bits_shift}
 use Rattle.mmtp.specs.declared.payload.FragmentType.{FragmentType}
-use Rattle.mmtp.specs.Payload.{fragment_type_of, mpu_of, mpu_by, mpu-short, mpu-length, mpu-by, flag_shift, flag-low}
+use Rattle.mmtp.specs.Payload.{fragment_type_of, mpu_of, mpu_by}
+use Rattle.mmtp.proofs.PayloadLaws.{mpu-short, mpu-length, mpu-by, flag_shift, flag-low}
 use Rattle.mmtp.proofs.payload.mpu.Goals as goal
 
 -- the fragment type that the flags at `i + 2` give, by shifts and masks

@@ -1,6 +1,6 @@
 -- Why read meets its contract: parsed, and then the three tests.
 use mathlib.Core.Path.{sym, ◌∙◌}
-use Rattle.mmtp.specs.Payload.{payload_unparsed, payload_counter, payload_aggregation, payload_units, payload_good}
+use Rattle.mmtp.proofs.PayloadLaws.{payload_unparsed, payload_counter, payload_aggregation, payload_units, payload_good}
 use Rattle.mmtp.proofs.payload.read.Goals as goal
 
 pub returns-in_default : goal.returns-in_default

@@ -4,8 +4,8 @@ use native.Mathlib.Nat.{add-zero}
 use native.Mathlib.Omega.{arith}
 use lib.ListN.{get_or}
 use lib.Seq.{get_or-drop}
-use Rattle.wire.specs.Bits.{bits_shift}
-use Rattle.mmtp.specs.Payload.{signalling_short, signalling_by, flag_shift, flag-low}
+use Rattle.wire.proofs.BitsLaws.{bits_shift}
+use Rattle.mmtp.proofs.PayloadLaws.{signalling_short, signalling_by, flag_shift, flag-low}
 use Rattle.mmtp.proofs.payload.signalling.Goals as goal
 
 pub returns-then-m-at : goal.returns-then-m-at

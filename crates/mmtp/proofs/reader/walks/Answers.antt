@@ -6,7 +6,8 @@ use mathlib.Core.List.{List}
 use native.Mathlib.Omega.{arith}
 use lib.Dec.{leb}
 use lib.ListN.{length, drop}
-use Rattle.mmtp.specs.Unit.{place_behind, aggregate, walk_on, walk_stands}
+use Rattle.mmtp.specs.Unit.{place_behind, aggregate}
+use Rattle.mmtp.proofs.UnitLaws.{walk_on, walk_stands}
 use Rattle.mmtp.proofs.reader.walks.Goals as goal
 
 -- a reader of `r`, which is the packet `m`, is moved from `i` to `j`

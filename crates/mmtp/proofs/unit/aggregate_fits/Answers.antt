@@ -2,7 +2,7 @@
 use mathlib.Core.Path.{sym, ◌∙◌}
 use native.Mathlib.Omega.{arith}
 use lib.ListN.{length-drop}
-use Rattle.mmtp.specs.Unit.{aggregate-fits-none, aggregate-fits-some}
+use Rattle.mmtp.proofs.UnitLaws.{aggregate-fits-none, aggregate-fits-some}
 use Rattle.mmtp.proofs.unit.aggregate_fits.Goals as goal
 
 pub returns-then-m-start : goal.returns-then-m-start

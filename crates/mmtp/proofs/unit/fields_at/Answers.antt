@@ -7,7 +7,7 @@ use native.Mathlib.Omega.{arith}
 use borrow.Author.Tests.{ne_eqb}
 use lib.ListN.{length}
 use lib.Seq.{get_or-drop}
-use Rattle.wire.specs.Field.{be-drop}
+use Rattle.wire.proofs.FieldLaws.{be-drop}
 use Rattle.mmtp.specs.Unit.{field_bytes, fields_of}
 use Rattle.mmtp.proofs.unit.fields_at.Goals as goal
 

@@ -1,7 +1,7 @@
 -- Why length_at meets its contract: by the flag, a field of 32 or of 16 bits.
 use native.Mathlib.Nat.{add-zero}
 use borrow.Author.Rules.{rules}
-use Rattle.wire.specs.Field.{be-drop}
+use Rattle.wire.proofs.FieldLaws.{be-drop}
 use Rattle.mmtp.specs.Unit.{length_bytes}
 use Rattle.mmtp.proofs.unit.length_at.Goals as goal
 

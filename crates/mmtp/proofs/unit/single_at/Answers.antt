@@ -1,7 +1,8 @@
 -- Why single_at meets its contract: the fields fit, and the unit is what follows.
 use mathlib.Core.Path.{sym, ◌∙◌}
 use native.Mathlib.Omega.{arith}
-use Rattle.mmtp.specs.Unit.{single_at, single_unit, single_within}
+use Rattle.mmtp.specs.Unit.{single_at, single_unit}
+use Rattle.mmtp.proofs.UnitLaws.{single_within}
 use Rattle.mmtp.proofs.unit.single_at.Goals as goal
 
 pub returns-then-not-single_fits : goal.returns-then-not-single_fits

@@ -1,6 +1,6 @@
 -- Why single_fits meets its contract: the fields reach at most to the end.
 use mathlib.Core.Path.{sym}
-use Rattle.mmtp.specs.Unit.{single_past, single_left}
+use Rattle.mmtp.proofs.UnitLaws.{single_past, single_left}
 use Rattle.mmtp.proofs.unit.single_fits.Goals as goal
 
 pub returns-then-m-at : goal.returns-then-m-at

@@ -6,7 +6,8 @@ use mathlib.Core.List.{List}
 use native.Mathlib.Omega.{arith}
 use borrow.Author.Tests.{le-leb, lt-leb}
 use lib.ListN.{length, drop, length-drop}
-use Rattle.mmtp.specs.Unit.{field_bytes, length_bytes, unit_fits, place_behind, unit_at, unit_end, data_unit, behind-on, behind-stays, unit-fits}
+use Rattle.mmtp.specs.Unit.{field_bytes, length_bytes, unit_fits, place_behind, unit_at, unit_end, data_unit}
+use Rattle.mmtp.proofs.UnitLaws.{behind-on, behind-stays, unit-fits}
 use Rattle.mmtp.proofs.unit.unit_at.Goals as goal
 
 -- what it tells that the reader got on to `n`

@@ -1,7 +1,7 @@
 -- Why unit_end meets its contract: its tests are those of a unit that fits.
 use mathlib.Core.Path.{sym}
 use native.Mathlib.Omega.{arith}
-use Rattle.mmtp.specs.Unit.{length-bytes_pos, behind-short, behind-over, behind-bare, behind-whole}
+use Rattle.mmtp.proofs.UnitLaws.{length-bytes_pos, behind-short, behind-over, behind-bare, behind-whole}
 use Rattle.mmtp.proofs.unit.unit_end.Goals as goal
 
 pub returns-then-m-at : goal.returns-then-m-at

@@ -1,5 +1,5 @@
 use Rattle.std.proofs.Common.{◌≡◌, ◌+◌, [], length, refl, ◌∙◌, arith, rules}
-use Rattle.wire.specs.Memory.{pasted-zero}
+use Rattle.wire.proofs.MemoryLaws.{pasted-zero}
 use Rattle.packer.specs.Packer.{packed}
 use Rattle.packer.specs.Writing.{planned}
 use Rattle.packer.proofs.Written.{turn}

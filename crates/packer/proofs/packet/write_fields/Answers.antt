@@ -1,6 +1,6 @@
 -- Why write_fields meets its contract: by the kinds that have fields.
 use Rattle.std.proofs.Common.{◌≢◌, [], arith, ne_eqb}
-use Rattle.wire.specs.Memory.{pasted-zero}
+use Rattle.wire.proofs.MemoryLaws.{pasted-zero}
 use Rattle.mmtp.specs.Unit.{field_bytes}
 use Rattle.packer.specs.Packet.{fields_written}
 use Rattle.packer.proofs.Lengths.{fields-2, fields-3}

@@ -5,8 +5,10 @@ use mathlib.Core.List.{◌∷◌, ◌++◌}
 use native.Mathlib.Nat.{add-zero}
 use native.Mathlib.Omega.{arith}
 use lib.ListN.{length, set, length-set}
-use Rattle.wire.specs.Words.{put_from, stores, put_on}
-use Rattle.queue.specs.Words.{give_words, packet_words, length-packet}
+use Rattle.wire.specs.Words.{put_from}
+use Rattle.wire.proofs.WordsLaws.{stores, put_on}
+use Rattle.queue.specs.Words.{give_words, packet_words}
+use Rattle.queue.proofs.WordsLaws.{length-packet}
 use Rattle.queue.proofs.waiting.put_many.Goals as goal
 
 -- the words stay as many

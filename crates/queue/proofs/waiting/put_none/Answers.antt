@@ -2,7 +2,7 @@ use Prim.Native.Nat.{ℕ, ◌-◌, ◌<◌}
 use mathlib.Core.Path.{◌≡◌, sym}
 use native.Mathlib.Omega.{arith}
 use lib.ListN.{get_or, get_or-replicate}
-use Rattle.wire.specs.Words.{put-start, put_next}
+use Rattle.wire.proofs.WordsLaws.{put-start, put_next}
 use Rattle.queue.specs.Waiting.{Nothing}
 use Rattle.queue.specs.Words.{give_words}
 use Rattle.queue.proofs.waiting.put_none.Goals as goal

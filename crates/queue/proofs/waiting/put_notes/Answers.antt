@@ -4,7 +4,8 @@ use mathlib.Core.List.{◌∷◌}
 use native.Mathlib.Nat.{add-zero}
 use native.Mathlib.Omega.{arith}
 use lib.ListN.{length-set}
-use Rattle.wire.specs.Words.{put_from, stores, flag_word}
+use Rattle.wire.specs.Words.{put_from, flag_word}
+use Rattle.wire.proofs.WordsLaws.{stores}
 use Rattle.queue.proofs.waiting.put_notes.Goals as goal
 
 pub bounds-t-i-2 : goal.bounds-t-i-2

@@ -5,8 +5,10 @@ use mathlib.Core.List.{◌∷◌, ◌++◌}
 use native.Mathlib.Nat.{add-zero}
 use native.Mathlib.Omega.{arith}
 use lib.ListN.{length, set, length-set}
-use Rattle.wire.specs.Words.{put_from, stores, put_on}
-use Rattle.words.specs.Channel.{unit_words, length-unit}
+use Rattle.wire.specs.Words.{put_from}
+use Rattle.wire.proofs.WordsLaws.{stores, put_on}
+use Rattle.words.specs.Channel.{unit_words}
+use Rattle.words.proofs.ChannelLaws.{length-unit}
 use Rattle.queue.specs.Words.{give_words, memory_word}
 use Rattle.queue.proofs.waiting.put_one.Goals as goal
 

@@ -6,7 +6,7 @@ use native.Mathlib.Omega.{arith}
 use borrow.Author.Tests.{eq-eqb, ne_eqb}
 use Rattle.wire.specs.Words.{flag_of}
 use Rattle.queue.specs.Words.{read_queue}
-use Rattle.queue.specs.Taking.{takes_note, takes_over, takes_nothing}
+use Rattle.queue.proofs.Taking.{takes_note, takes_over, takes_nothing}
 use Rattle.queue.proofs.waiting.take.Goals as goal
 
 -- what the tests show of the queue

@@ -3,10 +3,10 @@ use Prim.Native.Nat.{◌+◌, ◌≤◌, ◌<◌}
 use mathlib.Core.Path.{◌≡◌, sym, ◌∙◌}
 use native.Mathlib.Omega.{arith}
 use lib.ListN.{length, get_or}
-use Rattle.mmtp.specs.Unit.{unit-inside}
-use Rattle.wire.specs.Memory.{part-reach}
+use Rattle.mmtp.proofs.UnitLaws.{unit-inside}
+use Rattle.wire.proofs.MemoryLaws.{part-reach}
 use Rattle.queue.specs.Queue.{next_unit}
-use Rattle.queue.specs.Taking.{aggregate, takes_unit, takes_malformed, takes_end}
+use Rattle.queue.proofs.Taking.{aggregate, takes_unit, takes_malformed, takes_end}
 use Rattle.queue.proofs.waiting.take_many.Goals as goal
 
 -- what stands at the next unit's place

@@ -1,5 +1,5 @@
 -- Why take_one meets its contract: the unit that is read, and no unit is left.
-use Rattle.queue.specs.Taking.{takes_one}
+use Rattle.queue.proofs.Taking.{takes_one}
 use Rattle.queue.proofs.waiting.take_one.Goals as goal
 
 pub returns : goal.returns

@@ -1,7 +1,7 @@
 -- Why `extend` meets its contract: one law of `extended` for each return.
 use borrow.Author.Tests.{not-true, not-false}
 use Rattle.std.proofs.Common.{sym, ◌∙◌, arith}
-use Rattle.reassembly.specs.Join.{extended-apart, extended_uncounted, extended-over, extended-on}
+use Rattle.reassembly.proofs.JoinLaws.{extended-apart, extended_uncounted, extended-over, extended-on}
 use Rattle.reassembly.proofs.join.extend.Goals as goal
 
 pub returns-then-not-agree : goal.returns-then-not-agree

@@ -1,7 +1,7 @@
 -- Why advance_in meets its contract: the cursor is read, moved and stored.
-use Rattle.wire.specs.Words.{put-within}
-use Rattle.words.specs.Cursor.{cursor-put}
-use Rattle.state.specs.Clean.{exact-cursor}
+use Rattle.wire.proofs.WordsLaws.{put-within}
+use Rattle.words.proofs.CursorLaws.{cursor-put}
+use Rattle.state.proofs.Clean.{exact-cursor}
 use Rattle.receiver.proofs.next.advance_in.Goals as goal
 
 pub returns : goal.returns

@@ -6,9 +6,10 @@ use native.Mathlib.Omega.{arith}
 use Rattle.delivery.specs.Cursor.{left}
 use Rattle.queue.specs.declared.event.Event.TheVariants.{Refused}
 use Rattle.queue.specs.declared.event.Event.{Event}
-use Rattle.state.specs.Lent.{owed-on, owed_off}
-use Rattle.state.specs.Leaves.{answers_short, answers_kept}
-use Rattle.receiver.specs.Next.{NextOut, read_all, next-short, next-idle, next-reads, short-room}
+use Rattle.state.proofs.LentLaws.{owed-on, owed_off}
+use Rattle.state.proofs.Leaves.{answers_short, answers_kept}
+use Rattle.receiver.specs.Next.{NextOut, read_all}
+use Rattle.receiver.proofs.NextLaws.{next-short, next-idle, next-reads, short-room}
 use Rattle.state.specs.State.{State}
 use Rattle.receiver.proofs.Unrefused.{Unrefused, read-unrefused}
 use Rattle.receiver.proofs.next.next.Goals as goal

@@ -4,9 +4,10 @@ use mathlib.Core.Path.{◌≡◌, refl, sym, ◌∙◌, ap}
 use native.Mathlib.Omega.{arith}
 use lib.ListN.{length, length-set}
 use Rattle.delivery.specs.declared.cursor.Found.{Found}
-use Rattle.receiver.specs.Turns.{Turned, turned-event, turned_on, turned-less, turned-config, reads-event, reads-packet, reads-tail, reads-done}
-use Rattle.state.specs.Lent.{state-held, state-packet, placed-low, config_in_lem}
-use Rattle.state.specs.Clean.{exact_none, exact-on, exact-held, exact-queue, exact-owed, exact-packet}
+use Rattle.receiver.specs.Turns.{Turned}
+use Rattle.receiver.proofs.TurnsLaws.{turned-event, turned_on, turned-less, turned-config, reads-event, reads-packet, reads-tail, reads-done}
+use Rattle.state.proofs.LentLaws.{state-held, state-packet, placed-low, config_in_lem}
+use Rattle.state.proofs.Clean.{exact_none, exact-on, exact-held, exact-queue, exact-owed, exact-packet}
 use Rattle.state.specs.Words.{Exact}
 use Rattle.state.specs.State.{State}
 use Rattle.receiver.proofs.next.read_on.Goals as goal

@@ -1,9 +1,9 @@
 -- Why put_frame meets its contract: another layout, and slot 1 is due.
 use mathlib.Core.Path.{◌∙◌, ap}
 use native.Mathlib.Omega.{arith}
-use Rattle.state.specs.Lent.{state-at, state-layout}
+use Rattle.state.proofs.LentLaws.{state-at, state-layout}
 use Rattle.state.specs.State.{State, with_frame}
-use Rattle.state.specs.Clean.{exact-on, exact-slots, exact-at}
+use Rattle.state.proofs.Clean.{exact-on, exact-slots, exact-at}
 use Rattle.state.proofs.places.put_frame.Goals as goal
 
 pub returns : goal.returns

@@ -5,7 +5,8 @@ use mathlib.Core.Path.{refl}
 use native.Mathlib.Omega.{arith}
 use native.Mathlib.Nat.{add-zero}
 use lib.ListN.{length-set}
-use Rattle.wire.specs.Words.{flag_word, put_from, stores}
+use Rattle.wire.specs.Words.{flag_word, put_from}
+use Rattle.wire.proofs.WordsLaws.{stores}
 use Rattle.state.proofs.places.put_slot.Goals as goal
 
 pub bounds-t-i-2 : goal.bounds-t-i-2

@@ -3,7 +3,7 @@ use mathlib.Core.List.{List, map}
 use mathlib.Core.Path.{◌≡◌, sym, ◌∙◌}
 use native.Mathlib.Omega.{arith}
 use lib.ListN.{length, length-map}
-use Rattle.state.specs.Lent.{slots-none, slots-more, slots-all}
+use Rattle.state.proofs.LentLaws.{slots-none, slots-more, slots-all}
 use borrow.Author.Rules.{rules}
 use Rattle.state.proofs.places.put_slots.Goals as goal
 

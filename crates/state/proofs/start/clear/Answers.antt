@@ -5,7 +5,7 @@ use native.Mathlib.Omega.{arith}
 use native.Mathlib.Numerals.{add-one}
 use lib.Seq.{get_or-set_same, get_or-set_other}
 use lib.ListN.{length, get_or, set, length-set}
-use Rattle.wire.specs.Tab.{below_one}
+use Rattle.wire.proofs.TabLaws.{below_one}
 use Rattle.state.proofs.start.clear.Goals as goal
 
 -- one word more

@@ -1,7 +1,8 @@
 use Prim.Native.Nat.{◌-◌, min}
 use mathlib.Core.Path.{◌≡◌, sym, ◌∙◌}
 use native.Mathlib.Omega.{arith}
-use Rattle.state.specs.Start.{twice, twice-zero, twice-more, twice_hit, before_hit, before-none}
+use Rattle.state.specs.Start.{twice}
+use Rattle.state.proofs.StartLaws.{twice-zero, twice-more, twice_hit, before_hit, before-none}
 use Rattle.state.proofs.start.has_twice.Goals as goal
 
 pub loop-k-init : goal.loop-k-init

@@ -1,8 +1,8 @@
 -- Why put_fresh meets its contract: 0 in every word, then what start keeps, and no slot is due.
 use mathlib.Core.Path.{◌∙◌}
 use lib.ListN.{length-set}
-use Rattle.state.specs.Lent.{state-fresh}
-use Rattle.state.specs.Clean.{exact-fresh, fresh-clean}
+use Rattle.state.proofs.LentLaws.{state-fresh}
+use Rattle.state.proofs.Clean.{exact-fresh, fresh-clean}
 use Rattle.state.proofs.start.put_fresh.Goals as goal
 
 pub shape_of-words : goal.shape_of-words

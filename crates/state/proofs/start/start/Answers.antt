@@ -1,8 +1,8 @@
 -- Why start meets its contract: too few words, accepted where there is no refusal, or refused.
 use mathlib.Core.Path.{sym, ◌∙◌, ap}
 use native.Mathlib.Omega.{arith}
-use Rattle.state.specs.Leaves.{leaves-short, leaves-refused, leaves-accepted}
-use Rattle.state.specs.Start.{start-fresh, start-kept}
+use Rattle.state.proofs.Leaves.{leaves-short, leaves-refused, leaves-accepted}
+use Rattle.state.proofs.StartLaws.{start-fresh, start-kept}
 use Rattle.state.specs.State.{Called}
 use Rattle.state.proofs.start.start.Goals as goal
 

@@ -2,7 +2,8 @@
 use Prim.Native.Nat.{◌≤◌}
 use mathlib.Core.Path.{◌≡◌, sym, ◌∙◌}
 use Rattle.tlv.specs.Packet.{max_packet}
-use Rattle.tlv.specs.Held.{held_total, held_end, nothing-held, held_too_long, held-without-top, held-before-top}
+use Rattle.tlv.specs.Held.{held_total, held_end}
+use Rattle.tlv.proofs.HeldLaws.{nothing-held, held_too_long, held-without-top, held-before-top}
 use Rattle.tlv.proofs.held.resume.Goals as goal
 use Rattle.tlv.proofs.held.resume.Goals.{After-distance-end, Else-total-gt-MAX_PACKET}
 

@@ -1,6 +1,6 @@
 -- Why total_across meets its contract: the two bytes of the length.
 use Rattle.tlv.specs.Held.{held_total}
-use Rattle.tlv.specs.Cuts.{total-bytes}
+use Rattle.tlv.proofs.CutsLaws.{total-bytes}
 use borrow.Author.Rules.{rules}
 use Rattle.tlv.proofs.held.total_across.Goals as goal
 

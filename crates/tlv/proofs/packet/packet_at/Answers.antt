@@ -3,7 +3,7 @@ use native.Mathlib.Omega.{arith}
 use Prim.Native.Nat.{ℕ, ◌+◌}
 use mathlib.Core.Path.{sym, ◌∙◌, ap}
 use Rattle.tlv.specs.declared.packet.Next.TheVariants.{Packet}
-use Rattle.tlv.specs.Walks.{header-past, packet-past, packet-within, tail_there, packet_there}
+use Rattle.tlv.proofs.Walks.{header-past, packet-past, packet-within, tail_there, packet_there}
 use Rattle.tlv.proofs.packet.packet_at.Goals as goal
 
 pub returns-then-s-at : goal.returns-then-s-at

@@ -1,5 +1,5 @@
 -- Why total_at meets its contract: the field of the rest is a field of the slice.
-use Rattle.wire.specs.Field.{be-drop}
+use Rattle.wire.proofs.FieldLaws.{be-drop}
 use Rattle.tlv.specs.Packet.{total}
 use borrow.Author.Rules.{rules}
 use Rattle.tlv.proofs.packet.total_at.Goals as goal

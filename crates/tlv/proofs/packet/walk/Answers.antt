@@ -5,9 +5,9 @@ use mathlib.Core.List.{List}
 use native.Mathlib.Omega.{arith}
 use lib.ListN.{length, drop}
 use Rattle.tlv.specs.Packet.{marked}
-use Rattle.tlv.specs.Cuts.{total-bytes}
-use Rattle.tlv.specs.Walks.{header-past, packet-past, packet-within, marked-at, marked-end}
-use Rattle.tlv.specs.Walks.{walk_unmarked, walk_tail, walk_on}
+use Rattle.tlv.proofs.CutsLaws.{total-bytes}
+use Rattle.tlv.proofs.Walks.{header-past, packet-past, packet-within, marked-at, marked-end}
+use Rattle.tlv.proofs.Walks.{walk_unmarked, walk_tail, walk_on}
 use borrow.Author.Rules.{rules}
 use Rattle.tlv.proofs.packet.walk.Goals as goal
 use Rattle.tlv.proofs.packet.walk.Goals.{Else-not-good_first}

@@ -1,7 +1,7 @@
 -- Why is_sound meets its contract: the cases of its definition.
 use mathlib.Core.Path.{sym, ◌∙◌}
 use borrow.Author.Tests.{eq-eqb, ne_eqb}
-use Rattle.tlv.specs.Slot.{sound-without-top, unsound_outside, unsound_unmarked, sound-tail}
+use Rattle.tlv.proofs.SlotLaws.{sound-without-top, unsound_outside, unsound_unmarked, sound-tail}
 use Rattle.tlv.proofs.slot.is_sound.Goals as goal
 
 pub returns-then-last-eq-NONE : goal.returns-then-last-eq-NONE

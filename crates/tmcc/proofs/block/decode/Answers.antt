@@ -3,7 +3,7 @@ use mathlib.Core.Path.{◌≡◌, sym, ap, ◌∙◌}
 use mathlib.Core.Bool.{true, not}
 use borrow.Author.Tests.{eqb-true, eqb-false}
 use Rattle.tmcc.specs.Mode.{modes_good}
-use Rattle.tmcc.specs.Block.{refused-length, refused-modes, refused-streams, refused-own, accepts}
+use Rattle.tmcc.proofs.BlockLaws.{refused-length, refused-modes, refused-streams, refused-own, accepts}
 use Rattle.tmcc.proofs.block.decode.Goals as goal
 use Rattle.tmcc.proofs.block.decode.Goals.{Else-not-are_good}
 

@@ -1,8 +1,10 @@
 use Prim.Native.Nat.{◌*◌, ◌+◌}
 use mathlib.Core.Path.{◌≡◌, refl, sym, ◌∙◌}
 use native.Mathlib.Omega.{arith}
-use Rattle.tmcc.specs.Count.{all_below, all_one}
-use Rattle.tmcc.specs.Mode.{slots_of, slots-one, modes-bad, modes-all}
+use Rattle.tmcc.specs.Count.{all_below}
+use Rattle.tmcc.proofs.CountLaws.{all_one}
+use Rattle.tmcc.specs.Mode.{slots_of}
+use Rattle.tmcc.proofs.ModeLaws.{slots-one, modes-bad, modes-all}
 use Rattle.tmcc.proofs.mode.are_good.Goals as goal
 
 pub loop-k-init : goal.loop-k-init

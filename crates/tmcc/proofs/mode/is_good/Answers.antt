@@ -1,7 +1,8 @@
 -- Why is_good meets its contract: each return is one case of the rule.
 use mathlib.Core.Path.{◌≡◌, sym, ◌∙◌}
 use mathlib.Core.Bool.{true}
-use Rattle.tmcc.specs.Mode.{used_at, good-unused, good-first, good-later}
+use Rattle.tmcc.specs.Mode.{used_at}
+use Rattle.tmcc.proofs.ModeLaws.{good-unused, good-first, good-later}
 use Rattle.tmcc.proofs.mode.is_good.Goals as goal
 use Rattle.tmcc.proofs.mode.is_good.Goals.{Else-not-is_used}
 

@@ -2,7 +2,7 @@
 use mathlib.Core.Path.{◌≡◌}
 use mathlib.Core.Bool.{true}
 use borrow.Author.Tests.{lt-ltb, le-ltb}
-use Rattle.wire.specs.Bits.{bits_shift, bits_mask}
+use Rattle.wire.proofs.BitsLaws.{bits_shift, bits_mask}
 use Rattle.tmcc.specs.Mode.{within, used, modulation, code_rate}
 use Rattle.tmcc.proofs.mode.is_used.Goals as goal
 use Rattle.tmcc.proofs.mode.is_used.Goals.{Else-not-is_within, Else-not-is_within-2}

@@ -1,7 +1,8 @@
 use Prim.Native.Nat.{◌*◌, ◌-◌, ◌+◌}
 use mathlib.Core.Path.{◌≡◌, refl, sym, ◌∙◌}
 use native.Mathlib.Omega.{arith}
-use Rattle.tmcc.specs.Mode.{mode_from, mode_of, mode_here, mode_later}
+use Rattle.tmcc.specs.Mode.{mode_from, mode_of}
+use Rattle.tmcc.proofs.ModeLaws.{mode_here, mode_later}
 use Rattle.tmcc.proofs.mode.of_slot.Goals as goal
 
 pub loop-k-init : goal.loop-k-init

@@ -3,9 +3,9 @@ use Prim.Native.Nat.{◌*◌, ◌+◌}
 use mathlib.Core.Path.{sym}
 use native.Mathlib.Omega.{arith}
 use lib.ListN.{get_or}
-use Rattle.wire.specs.Bits.{bits_shift}
-use Rattle.wire.specs.Bits.{bits_mask}
-use Rattle.tmcc.specs.Mode.{length-live, length_dummy}
+use Rattle.wire.proofs.BitsLaws.{bits_shift}
+use Rattle.wire.proofs.BitsLaws.{bits_mask}
+use Rattle.tmcc.proofs.ModeLaws.{length-live, length_dummy}
 use Rattle.tmcc.proofs.mode.slot_length.Goals as goal
 
 pub overflow_cast-mode : goal.overflow_cast-mode

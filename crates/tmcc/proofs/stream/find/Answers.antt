@@ -1,6 +1,7 @@
 use mathlib.Core.Path.{◌≡◌, refl, sym, ◌∙◌}
 use native.Mathlib.Omega.{arith}
-use Rattle.tmcc.specs.Count.{count_below, last_below, count-one, last_one}
+use Rattle.tmcc.specs.Count.{count_below, last_below}
+use Rattle.tmcc.proofs.CountLaws.{count-one, last_one}
 use Rattle.tmcc.proofs.stream.find.Goals as goal
 use Rattle.tmcc.proofs.stream.find.Goals.{then-is_chosen, else-is_chosen}
 

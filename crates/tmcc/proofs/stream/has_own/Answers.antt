@@ -2,7 +2,8 @@ use Prim.Native.Nat.{◌-◌}
 use mathlib.Core.Path.{◌≡◌, refl, sym, ◌∙◌}
 use native.Mathlib.Omega.{arith}
 use borrow.Author.Tests.{ne_eqb}
-use Rattle.tmcc.specs.Count.{count_below, count-one, count-below-true}
+use Rattle.tmcc.specs.Count.{count_below}
+use Rattle.tmcc.proofs.CountLaws.{count-one, count-below-true}
 use Rattle.tmcc.proofs.stream.has_own.Goals as goal
 
 pub loop-s-init : goal.loop-s-init

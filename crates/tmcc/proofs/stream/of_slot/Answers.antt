@@ -1,6 +1,6 @@
 -- Why stream::of_slot meets its contract: the halves by shift and mask, in their order.
 use borrow.Author.Tests.{eq-eqb, ne_eqb}
-use Rattle.wire.specs.Bits.{bits_shift, bits_mask}
+use Rattle.wire.proofs.BitsLaws.{bits_shift, bits_mask}
 use Rattle.tmcc.specs.Stream.{relative_stream}
 use Rattle.tmcc.proofs.stream.of_slot.Goals as goal
 

@@ -1,6 +1,6 @@
 use mathlib.Core.Path.{◌≡◌, sym}
 use native.Mathlib.Omega.{arith}
-use Rattle.watch.specs.Given.{lowest_end, lowest_hit, lowest_on, lookup_lowest, lookup_missing}
+use Rattle.watch.proofs.GivenLaws.{lowest_end, lowest_hit, lowest_on, lookup_lowest, lookup_missing}
 use Rattle.watch.proofs.given.lookup.Goals as goal
 
 pub loop-k-init : goal.loop-k-init

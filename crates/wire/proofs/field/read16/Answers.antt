@@ -1,5 +1,5 @@
 -- Why `read16` meets its contract: the bytes of a field of two.
-use Rattle.wire.specs.Field.{be-2}
+use Rattle.wire.proofs.FieldLaws.{be-2}
 use Rattle.wire.proofs.field.read16.Goals as goal
 
 pub returns : goal.returns

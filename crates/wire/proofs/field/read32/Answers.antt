@@ -1,5 +1,5 @@
 -- Why `read32` meets its contract: a field of four is two of two.
-use Rattle.wire.specs.Field.{be-4}
+use Rattle.wire.proofs.FieldLaws.{be-4}
 use Rattle.wire.proofs.field.read32.Goals as goal
 
 pub returns : goal.returns

@@ -5,8 +5,10 @@ use mathlib.Core.List.{◌∷◌, ◌++◌}
 use native.Mathlib.Nat.{add-zero}
 use native.Mathlib.Omega.{arith}
 use lib.ListN.{length, length-set, length-append}
-use Rattle.wire.specs.Words.{put_from, stores, put_on}
-use Rattle.words.specs.Channel.{channel_words, phase_word, unit_words, length-unit}
+use Rattle.wire.specs.Words.{put_from}
+use Rattle.wire.proofs.WordsLaws.{stores, put_on}
+use Rattle.words.specs.Channel.{channel_words, phase_word, unit_words}
+use Rattle.words.proofs.ChannelLaws.{length-unit}
 use Rattle.words.proofs.channel.store_channel.Goals as goal
 
 pub bounds-t-i-2 : goal.bounds-t-i-2

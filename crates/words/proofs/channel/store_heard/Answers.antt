@@ -4,7 +4,8 @@ use mathlib.Core.List.{◌∷◌}
 use native.Mathlib.Nat.{add-zero}
 use native.Mathlib.Omega.{arith}
 use lib.ListN.{length-set}
-use Rattle.wire.specs.Words.{put_from, stores}
+use Rattle.wire.specs.Words.{put_from}
+use Rattle.wire.proofs.WordsLaws.{stores}
 use Rattle.words.specs.Channel.{phase_word}
 use Rattle.words.proofs.channel.store_heard.Goals as goal
 

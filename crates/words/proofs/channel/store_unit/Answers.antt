@@ -4,7 +4,8 @@ use mathlib.Core.List.{◌∷◌}
 use native.Mathlib.Nat.{add-zero}
 use native.Mathlib.Omega.{arith}
 use lib.ListN.{length-set}
-use Rattle.wire.specs.Words.{put_from, stores, put_on}
+use Rattle.wire.specs.Words.{put_from}
+use Rattle.wire.proofs.WordsLaws.{stores, put_on}
 use Rattle.words.specs.Channel.{unit_words, field_words}
 use Rattle.words.proofs.channel.store_unit.Goals as goal
 

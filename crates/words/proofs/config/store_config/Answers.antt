@@ -4,8 +4,10 @@ use mathlib.Core.List.{◌∷◌}
 use native.Mathlib.Nat.{add-zero}
 use native.Mathlib.Omega.{arith}
 use lib.ListN.{length-set}
-use Rattle.wire.specs.Words.{put_from, stores, put_on}
-use Rattle.words.specs.Config.{config_words, config-back}
+use Rattle.wire.specs.Words.{put_from}
+use Rattle.wire.proofs.WordsLaws.{stores, put_on}
+use Rattle.words.specs.Config.{config_words}
+use Rattle.words.proofs.ConfigLaws.{config-back}
 use Rattle.watch.specs.Rising.{rising}
 use Rattle.watch.specs.Words.{rising_words}
 use borrow.Author.Rules.{rules}

@@ -3,7 +3,8 @@ use mathlib.Core.Path.{refl}
 use native.Mathlib.Nat.{add-zero}
 use native.Mathlib.Omega.{arith}
 use lib.ListN.{length-set}
-use Rattle.wire.specs.Words.{put_from, stores}
+use Rattle.wire.specs.Words.{put_from}
+use Rattle.wire.proofs.WordsLaws.{stores}
 use Rattle.words.specs.Cursor.{cursor_words}
 use Rattle.words.proofs.cursor.store_cursor.Goals as goal
 

@@ -23,7 +23,8 @@ use Rattle.receiver.specs.Show.{show_of}
 use Rattle.queue.specs.Words.{memory_at, memory_word}
 use Rattle.calls.specs.Bounds.{are_within}
 use Rattle.calls.specs.Settings.{most16, most64, settings_most, start_by, ids_in, config_in}
-use Rattle.calls.specs.Record.{note_record, unit_record, event_record, read_place, read_event, unit_most, is_unit_record}
+use Rattle.calls.specs.Record.{note_record, unit_record, event_record, read_place, unit_most, is_unit_record}
+use Rattle.calls.proofs.RecordLaws.{read_event}
 use Rattle.calls.specs.Events.{next_left, next_call, events_of, put_events, events_call}
 use Rattle.calls.specs.Show.{copied, show_call}
 

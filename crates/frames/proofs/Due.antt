@@ -2,7 +2,7 @@
 use Rattle.std.specs.Prelude.{ℕ, ◌<◌, ◌≡◌, Bool, true, List, length, get_or}
 use Rattle.std.proofs.Common.{sym, ◌∙◌, ap}
 use Rattle.std.proofs.Math.Bool.{false}
-use Rattle.wire.specs.Tab.{get_or-tab}
+use Rattle.wire.proofs.TabLaws.{get_or-tab}
 use Rattle.tmcc.specs.declared.layout.Pointers.{Pointers}
 use Rattle.intake.specs.declared.held.Held.{Held}
 use Rattle.intake.specs.declared.held.Intake.{Intake}
@@ -10,8 +10,9 @@ use Rattle.intake.specs.Slot.{IntakeOut, intake_of}
 use Rattle.words.specs.Cursor.{read_held}
 use Rattle.state.specs.State.{State, with_intake, accepted}
 use Rattle.state.specs.Words.{pointers_in, length_in, own_in, layout_in, state_in}
-use Rattle.frames.specs.Slot.{slot_refusal, wrong_length, due_length, due_own, due_pointers, counted, slot_of, slot-own}
-use Rattle.state.specs.Lent.{held_in}
+use Rattle.frames.specs.Slot.{slot_refusal, wrong_length, due_length, due_own, due_pointers, counted, slot_of}
+use Rattle.frames.proofs.SlotLaws.{slot-own}
+use Rattle.state.proofs.LentLaws.{held_in}
 
 module _ (t : List ℕ) (h : (state_in t).frame.at < 120) where
   pub due-first : get_or t 20 0 < 120

@@ -2,7 +2,8 @@
 use Rattle.std.specs.Prelude.{ℕ, ◌+◌, ◌≤◌, ◌≡◌, refl, Bool, List, [], ◌∷◌}
 use Rattle.std.proofs.Common.{◌∙◌, inr, arith}
 use Rattle.std.proofs.Math.Bool.{false}
-use Rattle.wire.specs.Words.{Same, Within, flag_word, put-within, within-put}
+use Rattle.wire.specs.Words.{Same, Within, flag_word}
+use Rattle.wire.proofs.WordsLaws.{put-within, within-put}
 use Rattle.mmtp.specs.declared.note.PacketNote.{PacketNote}
 use Rattle.mmtp.specs.declared.unit.DataUnit.{DataUnit}
 use Rattle.mmtp.specs.declared.payload.Indicator.{Indicator}
@@ -15,24 +16,15 @@ use Rattle.reassembly.specs.declared.join.Piece.{Piece}
 use Rattle.reassembly.specs.Channel.{gap}
 use Rattle.reassembly.specs.Join.{join_of, acted}
 use Rattle.words.specs.Config.{KeptConfig}
-use Rattle.words.specs.Channel.{
-  phase_word,
-  read_channel,
-  channel_words,
-  HeardStored,
-  ChannelStored,
-  heard-put,
-  heard-clean,
-  channel-put,
-  channel-same,
-  channel-clean,
-}
+use Rattle.words.specs.Channel.{phase_word, read_channel, channel_words, HeardStored, ChannelStored}
+use Rattle.words.proofs.ChannelLaws.{heard-put, heard-clean, channel-put, channel-same, channel-clean}
 use Rattle.queue.specs.declared.located.Located.{Located}
 use Rattle.delivery.specs.declared.packet.Arrived.TheVariants.{Silent, Noted, Good}
-use Rattle.wire.specs.Choice.{by_test}
+use Rattle.wire.proofs.Choice.{by_test}
 use Rattle.queue.specs.Waiting.{Give, Nothing}
 use Rattle.delivery.specs.Packet.{arrived_at, bytes_at, unit_in, piece_from, step_of, base_of, collected, give_of, joined_of, received_of}
-use Rattle.queue.specs.Words.{give_words, NotesStored, GiveStored, queue-put, queue-clean}
+use Rattle.queue.specs.Words.{give_words, NotesStored, GiveStored}
+use Rattle.queue.proofs.WordsLaws.{queue-put, queue-clean}
 use Rattle.delivery.specs.Words.{CleanChannel, Keeps, Joins, Receives, channel_place}
 
 -- FI 00 leaves the current unit as it was

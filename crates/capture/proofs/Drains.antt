@@ -4,8 +4,9 @@ use Rattle.std.proofs.Common.{◌∙◌, ap, arith}
 use Rattle.receiver.specs.Next.{next_of}
 use Rattle.capture.specs.Session.{Session, busy, with_state}
 use Rattle.lines.specs.Line.{is_line}
-use Rattle.capture.specs.Waits.{waits, next-falls}
-use Rattle.capture.specs.Bounded.{same-on, enough}
+use Rattle.capture.specs.Waits.{waits}
+use Rattle.capture.proofs.WaitsLaws.{next-falls}
+use Rattle.capture.proofs.Bounded.{same-on, enough}
 use Rattle.capture.specs.Capture.{Drained, behind, event_by, event_line, drained_by, drained_of}
 
 -- nothing was called

@@ -1,15 +1,17 @@
 -- Laws of what a call leaves in the words: one change behind another, too few words, a refusal, another state.
 use Rattle.std.specs.Prelude.{ℕ, ◌<◌, ◌≤◌, ◌≡◌, refl, List, length}
 use Rattle.std.proofs.Common.{sym, ◌∙◌, ap, arith}
-use Rattle.wire.specs.Words.{Put, put-within}
+use Rattle.wire.specs.Words.{Put}
+use Rattle.wire.proofs.WordsLaws.{put-within}
 use Rattle.intake.specs.declared.held.Intake.{Intake}
-use Rattle.words.specs.Cursor.{held_words, CursorStored, cursor-put}
+use Rattle.words.specs.Cursor.{held_words, CursorStored}
+use Rattle.words.proofs.CursorLaws.{cursor-put}
 use Rattle.queue.specs.declared.event.Event.{Event}
 use Rattle.queue.specs.declared.event.Event.TheVariants.{Refused}
 use Rattle.state.specs.State.{State, Called, Answer, with_slot, with_intake, refused, accepted}
 use Rattle.state.specs.Words.{state_words, state_in, Leaves, Answers, Sets}
-use Rattle.state.specs.Lent.{state-held, state-cursor}
-use Rattle.state.specs.Clean.{exact_none, exact-on, exact-held, exact-cursor}
+use Rattle.state.proofs.LentLaws.{state-held, state-cursor}
+use Rattle.state.proofs.Clean.{exact_none, exact-on, exact-held, exact-cursor}
 
 -- what a slot leaves
 pub state_intake : (t u v : List ℕ) (i : Intake) → Put t u 22 3 (held_words i.held) → CursorStored u v 25 i.cursor

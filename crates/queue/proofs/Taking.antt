@@ -4,7 +4,8 @@ use Rattle.std.proofs.Common.{sym, ◌∙◌, ap, arith}
 use Rattle.std.proofs.Math.Nat.{add-zero}
 use borrow.Author.Tests.{ne_eqb}
 use Rattle.std.proofs.Math.Seq.{get_or-set_same, get_or-set_other}
-use Rattle.wire.specs.Words.{Holds, flag_of, holds-set, within_none, within-put, within-set}
+use Rattle.wire.specs.Words.{Holds, flag_of}
+use Rattle.wire.proofs.WordsLaws.{holds-set, within_none, within-put, within-set}
 use Rattle.mmtp.specs.declared.unit.DataUnit.{DataUnit}
 use Rattle.mmtp.specs.declared.unit.Step.TheVariants.{Unit as UnitAt, Malformed, End}
 use Rattle.reassembly.specs.declared.note.JoinNote.TheVariants.{AboveLimit}
@@ -13,8 +14,10 @@ use Rattle.words.specs.Channel.{read_unit}
 use Rattle.queue.specs.declared.event.Event.TheVariants.{Nothing, Note, Unit}
 use Rattle.queue.specs.Waiting.{Nothing as NoUnit, One, Many, Aggregate, Queue}
 use Rattle.queue.specs.Located.{whole_given}
-use Rattle.queue.specs.Queue.{giving, next_unit, taken-note, taken-over, taken-nothing, taken-one, taken_many}
-use Rattle.queue.specs.Words.{memory_at, read_packet, packet_words, read_give, give_words, read_queue, queue_words, GiveStored, CleanQueue, Gives, Takes, packet-same, give-same, give-put, give-clean}
+use Rattle.queue.specs.Queue.{giving, next_unit}
+use Rattle.queue.proofs.QueueLaws.{taken-note, taken-over, taken-nothing, taken-one, taken_many}
+use Rattle.queue.specs.Words.{memory_at, read_packet, packet_words, read_give, give_words, read_queue, queue_words, GiveStored, CleanQueue, Gives, Takes}
+use Rattle.queue.proofs.WordsLaws.{packet-same, give-same, give-put, give-clean}
 
 -- what waits, by the number of its units
 module _ (t : List ℕ) (i : ℕ) where

@@ -9,7 +9,7 @@ use Rattle.std.proofs.Math.Seq.{drop-drop}
 use Rattle.tlv.specs.declared.packet.Next.TheVariants.{Packet, Tail}
 use Rattle.tlv.specs.declared.packet.Walked.TheVariants.{Unmarked, Tail as TailAt}
 use Rattle.tlv.specs.Packet.{good_first, total, complete, marked, cut, packet_at, walk_of}
-use Rattle.tlv.specs.Cuts.{complete_if, short-header, short-packet, cut-end, cut-more}
+use Rattle.tlv.proofs.CutsLaws.{complete_if, short-header, short-packet, cut-end, cut-more}
 
 module _ (s : List ℕ) (at : ℕ) where
   pub header-past : length s - at < 4 → complete (drop at s) ≡ false

@@ -5,20 +5,25 @@ use Rattle.std.proofs.Common.{◌∙◌, inl, inr, add-zero, div-add-mod', arith
 use Rattle.std.proofs.Math.Bool.{false}
 use Rattle.std.proofs.Math.ListN.{get_or}
 use Rattle.std.proofs.lemmas.Bool.{eqb-false}
-use Rattle.wire.specs.Words.{Holds, Put, Within, Beside, Same, Zeros, zeros_hold, put-within, flag_of, flag_word, flag-back}
+use Rattle.wire.specs.Words.{Holds, Put, Within, Beside, Same, Zeros, flag_of, flag_word}
+use Rattle.wire.proofs.WordsLaws.{zeros_hold, put-within, flag-back}
 use Rattle.reassembly.specs.declared.config.Config.{Config}
-use Rattle.words.specs.Config.{read_config, config_words, ConfigStored, config-same, config-clean}
-use Rattle.words.specs.Channel.{read_channel, channel_words, channel-same, channel-zero-clean}
+use Rattle.words.specs.Config.{read_config, config_words, ConfigStored}
+use Rattle.words.proofs.ConfigLaws.{config-same, config-clean}
+use Rattle.words.specs.Channel.{read_channel, channel_words}
+use Rattle.words.proofs.ChannelLaws.{channel-same, channel-zero-clean}
 use Rattle.intake.specs.declared.held.Held.{Held}
 use Rattle.intake.specs.declared.held.Cursor.{Cursor}
-use Rattle.words.specs.Cursor.{read_held, held_words, held_same, held-clean, held-zero-clean, read_cursor, cursor_words, CursorStored, cursor-same, cursor-clean, cursor-zero-clean}
-use Rattle.queue.specs.Words.{read_queue, queue_words, queue-same, queue-zero-clean, CleanQueue}
+use Rattle.words.specs.Cursor.{read_held, held_words, read_cursor, cursor_words, CursorStored}
+use Rattle.words.proofs.CursorLaws.{held_same, held-clean, held-zero-clean, cursor-same, cursor-clean, cursor-zero-clean}
+use Rattle.queue.specs.Words.{read_queue, queue_words, CleanQueue}
+use Rattle.queue.proofs.WordsLaws.{queue-same, queue-zero-clean}
 use Rattle.delivery.specs.Words.{channel_place, CleanChannel}
-use Rattle.wire.specs.Tab.{get_or-tab}
+use Rattle.wire.proofs.TabLaws.{get_or-tab}
 use Rattle.reassembly.specs.Channel.{unheard}
 use Rattle.state.specs.State.{State}
 use Rattle.state.specs.Words.{state_words, pointers_in, length_in, own_in, layout_in, state_in, slot_words, CleanSlot, Clean, Exact, Cleared}
-use Rattle.state.specs.Lent.{kept_words, kept-clean, clean-slot, set-within, channel_in}
+use Rattle.state.proofs.LentLaws.{kept_words, kept-clean, clean-slot, set-within, channel_in}
 
 pub exact_none : (t : List ℕ) → Exact t t
 exact_none t = record { size = refl; rest = λ m h. refl; clean = λ c. c }

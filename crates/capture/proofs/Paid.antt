@@ -7,7 +7,7 @@ use Rattle.tlv.specs.declared.packet.Next.{Next}
 use Rattle.tlv.specs.declared.packet.Next.TheVariants.{Packet as PacketTo, Tail as TailAt}
 use Rattle.tlv.specs.Packet.{packet_at, too_long}
 use Rattle.intake.specs.declared.held.Cursor.{Cursor}
-use Rattle.wire.specs.Choice.{by_test}
+use Rattle.wire.proofs.Choice.{by_test}
 use Rattle.queue.specs.declared.event.Event.{Event as AnEvent}
 use Rattle.queue.specs.declared.event.Event.TheVariants.{Nothing, Note, Unit, Refused}
 use Rattle.queue.specs.Waiting.{Queue}
@@ -15,10 +15,11 @@ use Rattle.delivery.specs.declared.cursor.Found.{Found}
 use Rattle.delivery.specs.declared.cursor.Found.TheVariants.{Event, Packet, Tail, Done}
 use Rattle.delivery.specs.declared.cursor.Advanced.{Advanced}
 use Rattle.queue.specs.Queue.{event_taken}
-use Rattle.delivery.specs.Cursor.{left, is_event, advanced_by, advanced_of, slot_advanced, tail_advanced, turn_by, turn_of, turn-less}
+use Rattle.delivery.specs.Cursor.{left, is_event, advanced_by, advanced_of, slot_advanced, tail_advanced, turn_by, turn_of}
+use Rattle.delivery.proofs.CursorLaws.{turn-less}
 use Rattle.state.specs.State.{State}
 use Rattle.receiver.specs.Next.{NextOut, past, onwards, packet_of, read_on, read_all}
-use Rattle.receiver.specs.ReadOn.{packet-kept}
+use Rattle.receiver.proofs.ReadOnLaws.{packet-kept}
 
 -- an event that is found is not Nothing
 abbrev some : Found → Bool

@@ -1,0 +1,4 @@
+-- The laws of the definitions.
+pub mod QueueLaws
+pub mod Taking
+pub mod WordsLaws

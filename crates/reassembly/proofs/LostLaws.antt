@@ -1,0 +1,13 @@
+-- Laws of specs/Lost.antt.
+use Rattle.std.specs.Prelude.{refl}
+use Rattle.reassembly.specs.Unit.{agrees}
+use Rattle.reassembly.specs.Channel.{next_psn, heard, gap, unheard}
+use Rattle.reassembly.specs.Join.{interrupted, begun, counter_follows, grown, extended, followed, acted, join_of, notes_of}
+use Rattle.reassembly.specs.Run.{step, run}
+use Rattle.reassembly.specs.Sent.{open_unit, sent_after, sent}
+use Rattle.reassembly.specs.Lost.{Examples}
+
+pub examples : Examples
+unfolding next_psn heard gap unheard agrees interrupted begun counter_follows grown extended followed acted join_of notes_of step run
+    open_unit sent_after sent
+examples = (refl, refl, refl, refl, refl, refl, refl)
