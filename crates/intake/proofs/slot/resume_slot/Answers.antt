@@ -7,9 +7,10 @@ use Rattle.intake.specs.Slot.{held_len, resumed_as, resumed_mem}
 use Rattle.intake.proofs.SlotFacts.{resumed}
 use Rattle.intake.proofs.SlotLaws.{held_fits, ends-room, goes-on-room}
 use Rattle.intake.proofs.slot.resume_slot.Goals as goal
+use Rattle.intake.proofs.slot.resume_slot.Goals.{In-Ends, In-GoesOn}
 
 -- what continues the held packet is in the slot, and fits behind the held bytes
-ends : (c : goal.In-Ends)
+ends : (c : In-Ends)
     → let a = c.args in
     let k = c.in-Ends.end in
     (k ≤ length a.bytes.now) × (held_len a.held a.packet.now + k ≤ length a.packet.now)
@@ -19,7 +20,7 @@ ends c =
     let r = ends-room _ _ _ _ _ s.requires.2 (sym c.resume-c.ensures ∙ c.in-Ends.is) in
     (r.within, held_fits a.held a.packet.now a.bytes.now _ (omega (arith, s.requires.0)) r)
 
-goes_on : (c : goal.In-GoesOn)
+goes_on : (c : In-GoesOn)
     → let a = c.args in
     let k = length a.bytes.now in
     (k ≤ length a.bytes.now) × (held_len a.held a.packet.now + k ≤ length a.packet.now)
@@ -30,21 +31,21 @@ goes_on c =
     (r.within, held_fits a.held a.packet.now a.bytes.now _ (omega (arith, s.requires.0)) r)
 
 pub continue_packet-requires : goal.continue_packet-requires
-continue_packet-requires c = ends c
+continue_packet-requires c = ends (goal.at.continue_packet-requires c).In-Ends
 
 pub end_packet-requires : goal.end_packet-requires
 end_packet-requires c =
     let d = c in
     let s = d in
-    (omega (arith, s.held_len-n.ensures, (ends d).1), s.requires.1)
+    (omega (arith, s.held_len-n.ensures, (ends (goal.at.end_packet-requires c).In-Ends).1), s.requires.1)
 
 pub continue_packet-requires-in-GoesOn : goal.continue_packet-requires-in-GoesOn
-continue_packet-requires-in-GoesOn c = goes_on c
+continue_packet-requires-in-GoesOn c = goes_on (goal.at.continue_packet-requires-in-GoesOn c).In-GoesOn
 
 pub extend_packet-requires : goal.extend_packet-requires
 extend_packet-requires c =
     let d = c in
-    omega (arith, d.held_len-n.ensures, (goes_on d).1)
+    omega (arith, d.held_len-n.ensures, (goes_on (goal.at.extend_packet-requires c).In-GoesOn).1)
 
 pub returns-in-Dropped : goal.returns-in-Dropped
 unfolding resumed_as resumed_mem

@@ -1,7 +1,7 @@
 -- Why put_many meets its contract: the number, the packet behind it, and where it stands behind that.
 use Prim.Native.Nat.{◌+◌, ◌≤◌}
 use mathlib.Core.Path.{◌≡◌, refl, ◌∙◌}
-use mathlib.Core.List.{◌∷◌, ◌++◌}
+use mathlib.Core.List.{[], ◌∷◌, ◌++◌}
 use native.Mathlib.Nat.{add-zero}
 use native.Mathlib.Omega.{arith}
 use lib.ListN.{length, set, length-set}
@@ -10,9 +10,10 @@ use Rattle.wire.proofs.WordsLaws.{stores, put_on}
 use Rattle.queue.specs.Words.{give_words, packet_words}
 use Rattle.queue.proofs.WordsLaws.{length-packet}
 use Rattle.queue.proofs.waiting.put_many.Goals as goal
+use Rattle.queue.proofs.waiting.put_many.Goals.{After-store_packet}
 
 -- the words stay as many
-size : (d : goal.After-store_packet) → length d.store_packet.new.0 ≡ length d.args.t.now
+size : (d : After-store_packet) → length d.store_packet.new.t ≡ length d.args.t.now
 size d = d.store_packet.ensures.put.size ∙ simp length-set
 
 pub store_packet-requires : goal.store_packet-requires
@@ -20,21 +21,21 @@ store_packet-requires c = simp length-set (omega arith)
 
 pub bounds-t-i-2 : goal.bounds-t-i-2
 bounds-t-i-2 c =
-    let h = size c in
+    let h = size (goal.at.bounds-t-i-2 c).After-store_packet in
     omega arith
 
 pub bounds-t-i-3 : goal.bounds-t-i-3
 bounds-t-i-3 c =
-    let h = size c in
+    let h = size (goal.at.bounds-t-i-3 c).After-store_packet in
     simp length-set (omega arith)
 
 pub bounds-t-i-4 : goal.bounds-t-i-4
 bounds-t-i-4 c =
-    let h = size c in
+    let h = size (goal.at.bounds-t-i-4 c).After-store_packet in
     simp length-set (omega arith)
 
 pub shape_of-t : goal.shape_of-t
-shape_of-t c = simp length-set (size c)
+shape_of-t c = simp length-set (size (goal.at.shape_of-t c).After-store_packet)
 
 pub returns : goal.returns
 unfolding give_words put_from
@@ -44,13 +45,13 @@ returns c =
     let t = s.args.t.now in
     let i = s.args.i in
     let l = s.args.l in
-    let v = d.store_packet.new.0 in
+    let v = d.store_packet.new.t in
     let ys = l.start ∷ l.end ∷ s.args.at ∷ [] in
     let e : i + 3 + 1 ≡ i + 4 = omega arith in
     let e₀ : i + 3 + 11 ≡ i + 14 = omega arith in
     let e₁ : i + 14 + 1 ≡ i + 15 = omega arith in
     let e₂ : i + 14 + 2 ≡ i + 16 = omega arith in
-    let z : i + 14 + 3 ≤ length v = omega (arith, s.requires, size d) in
+    let z : i + 14 + 3 ≤ length v = omega (arith, s.requires, size (goal.at.returns c).After-store_packet) in
     record {
       put =
           (put_on t v _ (i + 3) 11 3 14 ((2 ∷ []) ++ packet_words l.packet) ys (rw (length-packet l.packet)) refl

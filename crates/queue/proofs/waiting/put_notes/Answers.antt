@@ -1,6 +1,6 @@
 -- Why put_notes meets its contract: three stores.
 use mathlib.Core.Path.{refl}
-use mathlib.Core.List.{◌∷◌}
+use mathlib.Core.List.{[], ◌∷◌}
 use native.Mathlib.Nat.{add-zero}
 use native.Mathlib.Omega.{arith}
 use lib.ListN.{length-set}
@@ -21,7 +21,7 @@ returns c =
     record {
       put =
           rw c.flag.ensures
-          (rw (add-zero a.i) at (stores a.t.now a.i 3 (a.note ∷ flag_word a.over ∷ a.packet-id ∷ []) refl (omega arith)));
+          (rw (add-zero a.i) at (stores a.t.now a.i 3 (a.note ∷ flag_word a.over ∷ a.packet_id ∷ []) refl (omega arith)));
       note-sized = omega arith;
       id-sized = omega arith;
     }

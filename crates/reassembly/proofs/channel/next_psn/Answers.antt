@@ -4,4 +4,4 @@ use Rattle.reassembly.proofs.channel.next_psn.Goals as goal
 
 pub returns : goal.returns
 unfolding next_psn
-returns c = rw c.wrapping_add_u32.ensures
+returns c = rw c.wrapping_add_u32.ensures.value

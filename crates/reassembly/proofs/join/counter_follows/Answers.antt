@@ -4,4 +4,4 @@ use Rattle.reassembly.proofs.join.counter_follows.Goals as goal
 
 pub returns : goal.returns
 unfolding counter_follows
-returns c = rw c.wrapping_add_u8.ensures
+returns c = rw c.wrapping_add_u8.ensures.value

@@ -1,7 +1,7 @@
 -- Why store_channel meets its contract: the phase and the psn, the unit behind them, and two stores behind that.
 use Prim.Native.Nat.{◌+◌, ◌≤◌}
 use mathlib.Core.Path.{◌≡◌, refl, ◌∙◌}
-use mathlib.Core.List.{◌∷◌, ◌++◌}
+use mathlib.Core.List.{[], ◌∷◌, ◌++◌}
 use native.Mathlib.Nat.{add-zero}
 use native.Mathlib.Omega.{arith}
 use lib.ListN.{length, length-set, length-append}
@@ -32,7 +32,7 @@ returns c =
     let w = c.store_unit in
     let xs = phase_word ch.phase ∷ ch.last.0 ∷ [] in
     let ys = ch.current.counter ∷ ch.current.len ∷ [] in
-    let v = w.new.0 in
+    let v = w.new.t in
     let e : i + 12 + 1 ≡ i + 13 = omega arith in
     let l : i + 12 + 2 ≤ length v = omega (arith, s.requires, h.ensures.put.size, w.ensures.put.size) in
     record {

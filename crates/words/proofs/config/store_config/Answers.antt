@@ -1,6 +1,6 @@
 -- Why store_config meets its contract: four stores, and the watch list behind them.
 use mathlib.Core.Path.{refl, ◌∙◌}
-use mathlib.Core.List.{◌∷◌}
+use mathlib.Core.List.{[], ◌∷◌}
 use native.Mathlib.Nat.{add-zero}
 use native.Mathlib.Omega.{arith}
 use lib.ListN.{length-set}
@@ -10,7 +10,6 @@ use Rattle.words.specs.Config.{config_words}
 use Rattle.words.proofs.ConfigLaws.{config-back}
 use Rattle.watch.specs.Rising.{rising}
 use Rattle.watch.specs.Words.{rising_words}
-use borrow.Author.Rules.{rules}
 use Rattle.words.proofs.config.store_config.Goals as goal
 
 pub bounds-t-i-2 : goal.bounds-t-i-2
