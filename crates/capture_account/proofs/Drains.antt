@@ -75,7 +75,7 @@ module _ (p : List ℕ) where
   drains-by (notes {st} {st'} {st''} {c} {c'} {c''} {n = m} {id} {es} e d) (suc n) t o q l v =
       let a : Answer = record { event = Note m id; state = st' } in
       let w = less n st t p c o a c' e refl in
-      let i = drains-by d n (tallied t (Note m id)) (owes n st t p c o a c' e refl) q (omega arith) (rw e at (next_lies st p c v)).1 in
+      let i = drains-by {st = st'} {st' = st''} {c = c'} {c' = c''} {es = es} d n (tallied t (Note m id)) (owes n st t p c o a c' e refl) q (omega arith) (rw e at (next_lies st p c v)).1 in
       rw (drained_next n st t p c o a c' e, waited_next n st t p c o a c' e)
       (record {
         events = ap (λ (r : List Placed). placed_as t (note m id) 0 ∷ r) i.events;
@@ -88,7 +88,7 @@ module _ (p : List ℕ) where
   drains-by (units {st} {st'} {st''} {c} {c'} {c''} {g} {es} e d) (suc n) t o q l v =
       let a : Answer = record { event = Unit g; state = st' } in
       let w = less n st t p c o a c' e refl in
-      let i = drains-by d n (tallied t (Unit g)) (owes n st t p c o a c' e refl) q (omega arith) (rw e at (next_lies st p c v)).1 in
+      let i = drains-by {st = st'} {st' = st''} {c = c'} {c' = c''} {es = es} d n (tallied t (Unit g)) (owes n st t p c o a c' e refl) q (omega arith) (rw e at (next_lies st p c v)).1 in
       let k = (rw e at (next_lies st p c v)).0 in
       rw (drained_next n st t p c o a c' e, waited_next n st t p c o a c' e)
       (record {

@@ -19,7 +19,7 @@ use Rattle.broadcast.specs.Account.{account}
 use Rattle.broadcast.specs.Drains.{strip}
 use Rattle.broadcast.specs.Calls.{Made, Todo, lost-frame}
 use Rattle.broadcast.specs.Carried.{carried_units, intact_units, contents}
-use Rattle.broadcast.specs.Frames.{Frame, Damage, none, slots_todo, reading}
+use Rattle.broadcast.specs.Frames.{Frame, Damage, none, layout_in, slots_todo, reading}
 use Rattle.broadcast.specs.Demand3.{NoNote, Reads, slots_of, kept}
 use Rattle.broadcast.specs.Broadcast.{config, frames, Assumed, Memories, Remain, slot_lost, frame_lost}
 use Rattle.frames.proofs.SlotLaws.{right-length}
@@ -50,7 +50,7 @@ unfolding calls_in reading
 frames-sized stream i [] w = tt
 frames-sized stream i (f ∷ fs) w = (
   (tmcc-accepted f.block stream w.0).size,
-  slots-sized _ i 0 f.slots (reading none (suc i) fs) w.2 (frames-sized stream (suc i) fs w.3),
+  slots-sized (layout_in stream f) i 0 f.slots (reading none (suc i) fs) w.2 (frames-sized stream (suc i) fs w.3),
 )
 
 pub undamaged-met : (start : List ℕ) (fs : List Frame) (p c : List ℕ) (xs : List Made) → length start ≡ 42 → Begins start

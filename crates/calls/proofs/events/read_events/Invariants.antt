@@ -1,5 +1,5 @@
 -- Why read_events meets its contract: what was given, and what next gives from here on, is the same throughout.
-use Prim.Native.Nat.{◌-◌, ◌*◌, ◌/◌, ◌≤◌}
+use Prim.Native.Nat.{◌-◌, ◌*◌, ◌≤◌}
 use mathlib.Core.Path.{◌≡◌}
 use lib.ListN.{length}
 use Rattle.state.specs.Words.{state_words, state_in, Exact}
@@ -11,11 +11,16 @@ use Rattle.calls.proofs.events.read_events.Given as goal
 
 abbrev pub invariant-loop-n : goal.invariant-loop-n
 invariant-loop-n l =
-    (gave l.n l.at l.records (events_of (l.room - l.n) (state_in l.words) l.packet l.collecting)
-    ≡ events_left l.initial.records (events_of l.room (state_in l.initial.words) l.packet l.initial.collecting))
-    × (l.n ≤ l.room) × (l.at ≡ 24 * l.n) × (l.room ≡ length l.initial.records / 24) × (state_words ≤ length l.words) × Exact l.initial.words l.words
-    × (length l.collecting ≡ length l.initial.collecting) × (length l.records ≡ length l.initial.records)
-    × (short_by (state_in l.words).config (length l.packet) (length l.collecting) ≡ false)
+    record {
+      same :
+          gave l.n l.at l.records (events_of (l.room - l.n) (state_in l.words) l.packet l.collecting)
+          ≡ events_left l.initial.records (events_of l.room (state_in l.initial.words) l.packet l.initial.collecting);
+      within : l.n ≤ l.room;
+      place : l.at ≡ 24 * l.n;
+      words : state_words ≤ length l.words;
+      exact : Exact l.initial.words l.words;
+      suffice : short_by (state_in l.words).config (length l.packet) (length l.collecting) ≡ false;
+    }
 
 abbrev pub decreases-loop-n : goal.decreases-loop-n
 decreases-loop-n l = l.room - l.n

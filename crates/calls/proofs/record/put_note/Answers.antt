@@ -1,7 +1,7 @@
 -- Why put_note meets its contract: six stores, and zeros behind them.
 use Prim.Native.Nat.{ℕ}
 use mathlib.Core.Path.{refl, ◌∙◌}
-use mathlib.Core.List.{List, ◌∷◌}
+use mathlib.Core.List.{List, [], ◌∷◌}
 use native.Mathlib.Nat.{add-zero}
 use native.Mathlib.Omega.{arith}
 use lib.ListN.{length-set, replicate}
@@ -16,16 +16,14 @@ shape_of-t c = c.put_zeros.ensures.size ∙ simp length-set
 pub returns : goal.returns
 unfolding note_record put_from
 returns c =
-    let z = c in
-    let s = z in
-    let t = s.args.t.now in
-    let i = s.args.i in
-    let xs : List ℕ = 1 ∷ s.args.number ∷ 0 ∷ 0 ∷ 0 ∷ s.args.id ∷ [] in
+    let t = c.args.t.now in
+    let i = c.args.i in
+    let xs : List ℕ = 1 ∷ c.args.number ∷ 0 ∷ 0 ∷ 0 ∷ c.args.id ∷ [] in
     record {
       put =
           put_on t _ _ i 6 18 24 xs (replicate 18 0) refl refl
-          (rw (add-zero i) at (stores t i 6 xs refl (omega (arith, s.requires)))) z.put_zeros.ensures;
-      sized = (omega (arith, s.well_formed), omega (arith, s.well_formed));
+          (rw (add-zero i) at (stores t i 6 xs refl (omega (arith, c.requires)))) c.put_zeros.ensures;
+      sized = (omega (arith, c.well_formed), omega (arith, c.well_formed));
     }
 
 pub bounds-t-i-2 : goal.bounds-t-i-2

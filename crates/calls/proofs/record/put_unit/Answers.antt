@@ -1,7 +1,7 @@
 -- Why put_unit meets its contract: five stores, what the unit carries, and zeros behind it.
 use Prim.Native.Nat.{ℕ, ◌+◌}
 use mathlib.Core.Path.{◌≡◌, refl, ◌∙◌}
-use mathlib.Core.List.{List, ◌∷◌, ◌++◌}
+use mathlib.Core.List.{List, [], ◌∷◌, ◌++◌}
 use native.Mathlib.Nat.{add-zero}
 use native.Mathlib.Omega.{arith}
 use lib.ListN.{length-set, length-append, replicate}
@@ -18,29 +18,24 @@ put_zeros-requires c = let l = c.store_unit.ensures.put.size in rw l (simp lengt
 
 pub shape_of-t : goal.shape_of-t
 shape_of-t c =
-    let z = c in
-    z.put_zeros.ensures.size ∙ z.store_unit.ensures.put.size ∙ simp length-set
+    c.put_zeros.ensures.size ∙ c.store_unit.ensures.put.size ∙ simp length-set
 
 pub returns : goal.returns
 unfolding unit_record put_from
 returns c =
-    let z = c in
-    let u = z in
-    let m = u in
-    let s = m in
-    let t = s.args.t.now in
-    let i = s.args.i in
-    let g = s.args.given in
-    let e = m.memory_number.ensures in
+    let t = c.args.t.now in
+    let i = c.args.i in
+    let g = c.args.given in
+    let e = c.memory_number.ensures in
     let xs : List ℕ = 2 ∷ 0 ∷ memory_word g.place.memory ∷ g.place.start ∷ g.place.len ∷ [] in
     let a : i + 5 + 10 ≡ i + 15 = omega arith in
     record {
       put =
           put_on t _ _ i 15 9 24 (xs ++ unit_words g.unit) (replicate 9 0) (rw (length-append, length-unit g.unit)) refl
           (put_on t _ _ i 5 10 15 xs (unit_words g.unit) refl refl
-          (rw (add-zero i) at (stores t i 5 xs refl (omega (arith, s.requires)))) (rw e at u.store_unit.ensures.put))
-          z.put_zeros.ensures;
-      sized = u.store_unit.ensures.sized;
+          (rw (add-zero i) at (stores t i 5 xs refl (omega (arith, c.requires)))) (rw e at c.store_unit.ensures.put))
+          c.put_zeros.ensures;
+      sized = c.store_unit.ensures.sized;
     }
 
 pub bounds-t-i-2 : goal.bounds-t-i-2

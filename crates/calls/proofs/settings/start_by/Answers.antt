@@ -1,7 +1,7 @@
 -- Why start_by meets its contract: too few words, settings that cannot be, or start.
 use mathlib.Core.Path.{sym, ◌∙◌, ap}
+use mathlib.Core.List.{[]}
 use native.Mathlib.Omega.{arith}
-use borrow.Author.Tests.{not-true, not-false}
 use Rattle.state.proofs.Leaves.{leaves-short, leaves-refused}
 use Rattle.state.specs.State.{Called}
 use Rattle.calls.proofs.SettingsLaws.{start-by, start-not, settings-length}
@@ -12,7 +12,7 @@ returns-then-words-lt-STATE_WORDS c = record { leaves = leaves-short _ _ _ c.if-
 
 pub returns-then-not-are_settings : goal.returns-then-not-are_settings
 returns-then-not-are_settings c =
-    let f = sym c.are_settings.ensures ∙ not-true _ c.if-not-are_settings.true in
+    let f = sym c.are_settings.ensures ∙ c.if-not-are_settings.true in
     record {
       leaves = leaves-refused _ _ _ _ c.if-words-lt-STATE_WORDS.false (ap (λ (x : Called). (x, [])) (start-not _ _ f));
       clean = λ z. absurd (omega arith);
@@ -20,12 +20,10 @@ returns-then-not-are_settings c =
 
 pub config_of-requires : goal.config_of-requires
 config_of-requires c =
-    let l = settings-length _ (sym c.are_settings.ensures ∙ not-false _ c.if-not-are_settings.false) in
+    let l = settings-length _ (sym c.are_settings.ensures ∙ c.if-not-are_settings.false) in
     omega arith
 
 pub returns : goal.returns
 returns c =
-    let s = c in
-    let e = s in
-    let f = sym e.are_settings.ensures ∙ not-false _ e.if-not-are_settings.false in
-    rw (start-by _ _ f, ← s.config_of.ensures) s.start.ensures
+    let f = sym c.are_settings.ensures ∙ c.if-not-are_settings.false in
+    rw (start-by _ _ f, ← c.config_of.ensures) c.start.ensures

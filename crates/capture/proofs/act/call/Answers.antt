@@ -1,5 +1,5 @@
 -- Why `call` meets its contract: by the letter.
-use Rattle.std.proofs.Common.{ℕ, ◌≤◌, List, length, refl, ap}
+use Rattle.std.proofs.Common.{ℕ, ◌≤◌, List, [], length, refl, ap}
 use Rattle.wire.proofs.MemoryLaws.{slice-rest}
 use Rattle.state.specs.State.{Called}
 use Rattle.state.specs.Words.{state_words, Leaves}
@@ -20,55 +20,41 @@ config-config-requires c = rw c.in-Start.is at c.requires.2
 
 pub slice_bounds-slot-count : goal.slice_bounds-slot-count
 slice_bounds-slot-count c =
-    let e = c in
-    slot-size-long _ (rw e.in-Slot.is at e.requires.2)
+    slot-size-long _ (rw c.in-Slot.is at c.requires.2)
 
 pub slice_bounds-slot-start : goal.slice_bounds-slot-start
 slice_bounds-slot-start c =
-    let e = c in
-    slot-size-long _ (rw e.in-Slot.is at e.requires.2)
+    slot-size-long _ (rw c.in-Slot.is at c.requires.2)
 
 pub returns-in-Start : goal.returns-in-Start
 unfolding call_of
 returns-in-Start c =
-    let s = c in
-    let e = s in
-    rw (e.in-Start.is, ← s.config-config.ensures)
-    (calls _ _ _ _ _ e.requires.0 s.start.ensures.leaves)
+    rw (c.in-Start.is, ← c.config-config.ensures)
+    (calls _ _ _ _ _ c.requires.0 c.start.ensures.leaves)
 
 pub returns-in-Frame : goal.returns-in-Frame
 unfolding call_of
 returns-in-Frame c =
-    let f = c in
-    let e = f in
-    let s = e in
-    rw (e.in-Frame.is, ← slice-rest s.args.b.now 1)
-    (calls _ _ _ _ _ s.requires.0 f.frame.ensures)
+    rw (c.in-Frame.is, ← slice-rest c.args.b.now 1)
+    (calls _ _ _ _ _ c.requires.0 c.frame.ensures)
 
 pub returns-in-LostFrame : goal.returns-in-LostFrame
 unfolding call_of
 returns-in-LostFrame c =
-    let f = c in
-    let e = f in
-    rw e.in-LostFrame.is
-    (calls _ _ _ _ _ e.requires.0 f.lost_frame.ensures)
+    rw c.in-LostFrame.is
+    (calls _ _ _ _ _ c.requires.0 c.lost_frame.ensures)
 
 pub returns-in-Slot : goal.returns-in-Slot
 unfolding call_of
 returns-in-Slot c =
-    let t = c in
-    let e = t in
-    let s = e in
-    rw (e.in-Slot.is, ← slice-rest s.args.b.now 3)
-    (record { answer = t.slot.ensures.long s.requires.0; exact = t.slot.ensures.exact })
+    rw (c.in-Slot.is, ← slice-rest c.args.b.now 3)
+    (record { answer = c.slot.ensures.long c.requires.0; exact = c.slot.ensures.exact })
 
 pub returns-in-LostSlot : goal.returns-in-LostSlot
 unfolding call_of
 returns-in-LostSlot c =
-    let t = c in
-    let e = t in
-    rw e.in-LostSlot.is
-    (calls _ _ _ _ _ e.requires.0 t.lost_slot.ensures)
+    rw c.in-LostSlot.is
+    (calls _ _ _ _ _ c.requires.0 c.lost_slot.ensures)
 
 pub returns-in-Unknown : goal.returns-in-Unknown
 unfolding call_of

@@ -4,10 +4,9 @@ use Rattle.capture.specs.Command.{config_of}
 use Rattle.capture.proofs.command.config.Goals as goal
 
 pub overflow_cast-watch : goal.overflow_cast-watch
-overflow_cast-watch c = omega (arith, c.shared-slice-known2.given 5)
+overflow_cast-watch c = omega (arith, c.type_inv.b 5)
 
 pub returns : goal.returns
 unfolding config_of
 returns c =
-    let a = c in
-    rw (a.read16.ensures, c.read16-2.ensures, a.ids-ids.ensures, c.read32.ensures)
+    rw (c.read16.ensures, c.read16-2.ensures, c.ids-ids.ensures, c.read32.ensures)

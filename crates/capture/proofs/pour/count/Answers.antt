@@ -8,11 +8,11 @@ returns-in-Nothing c = rw c.in-Nothing.is
 
 pub returns-in-Note : goal.returns-in-Note
 unfolding tallied
-returns-in-Note c = rw (c.in-Note.is, c.wrapping_add_u64.ensures)
+returns-in-Note c = rw (c.in-Note.is, c.wrapping_add_u64.ensures.value)
 
 pub returns-in-Unit : goal.returns-in-Unit
 unfolding tallied
-returns-in-Unit c = rw (c.in-Unit.is, c.wrapping_add_u64-in-Unit.ensures)
+returns-in-Unit c = rw (c.in-Unit.is, c.wrapping_add_u64-in-Unit.ensures.value)
 
 pub returns-in-Refused : goal.returns-in-Refused
 unfolding tallied

@@ -1,36 +1,12 @@
-use Rattle.std.proofs.Common.{◌≡◌, true, length, sym, refl, ◌∙◌, leb-true}
-use borrow.Author.Tests.{not-true, not-false}
+use Rattle.std.proofs.Common.{sym, refl, ◌∙◌, leb-true}
 use Rattle.receiver.proofs.NextLaws.{short-room}
 use Rattle.capture.proofs.WordsLaws.{closed_in}
-use Rattle.capture.specs.declared.session.Session.{Session}
-use Rattle.capture.specs.declared.session.Tally.{Tally}
-use Rattle.capture.specs.Steps.{roomy}
 use Rattle.capture.proofs.StepsLaws.{pour_line, pour_last, pour_full, drains-paid, drains-on, drains-falls}
 use Rattle.state.proofs.Clean.{exact_none, exact-on}
 use Rattle.capture.proofs.pour.drain.Goals as goal
 
--- the session in a turn, beside the state memory
-abbrev on : Session → Tally → Session
-on s t = record { phase = s.phase; tally = t }
-
--- from the test of the event back to its line, to reading on, and to the front of the loop
-abbrev written : goal.After-is_line → goal.After-put_event-place
-written j = j
-
-abbrev answered : goal.After-put_event-place → goal.After-read_on-event
-answered w = w
-
-abbrev front : goal.After-read_on-event → goal.At-loop-words
-front n = n
-
--- there is room for a line
-room : (c : goal.In-loop-words → roomy (length c.loop-words.out) c.loop-words.place ≡ true
-room c = sym c.has_room.ensures ∙ c.loop-words-test.true
-
 pub loop-words-init : goal.loop-words-init
-loop-words-init c =
-    let s = c in
-    (refl, s.requires.1, s.requires.0, exact_none _, refl, refl)
+loop-words-init c = (refl, c.requires.1, c.requires.0, exact_none _)
 
 pub read_on-event-requires : goal.read_on-event-requires
 read_on-event-requires c =
@@ -38,55 +14,37 @@ read_on-event-requires c =
     (l.invariant.2, short-room _ _ _ l.invariant.1.long)
 
 pub put_event-place-requires : goal.put_event-place-requires
-put_event-place-requires c = leb-true _ _ (room c)
-
-pub shape_of-words-then-not-is_line : goal.shape_of-words-then-not-is_line
-shape_of-words-then-not-is_line c = let n = answered (written c) in n.read_on-event.ensures.exact.size ∙ (front n).loop.inv.3.size
-
-pub shape_of-collecting-then-not-is_line : goal.shape_of-collecting-then-not-is_line
-shape_of-collecting-then-not-is_line c = let n = answered (written c) in n.read_on-event.kept.1.1.0 ∙ (front n).loop.inv.4
-
-pub shape_of-out-then-not-is_line : goal.shape_of-out-then-not-is_line
-shape_of-out-then-not-is_line c = let w = written c in w.put_event-place.kept.0 ∙ (front (answered w)).loop.inv.5
+put_event-place-requires c = leb-true _ _ (sym c.has_room.ensures ∙ c.loop-words-test.true)
 
 pub returns-then-not-is_line : goal.returns-then-not-is_line
 returns-then-not-is_line c =
-    let j = c in
-    let w = written j in
-    let n = answered w in
-    let l = (front n).loop in
-    let e = n.read_on-event.ensures.answer in
+    let l = c.loop-words in
+    let e = c.read_on-event.ensures.answer in
     record {
       answer =
-          rw (c.stop_after.ensures, j.count-tally.ensures, closed_in _ _ _ (drains-paid _ _ _ l.inv.1 _ e))
-          (sym (pour_last _ _ _ l.inv.1 _ e _ _ (room n) _ _ w.put_event-place.ensures.written
-          (sym j.is_line.ensures ∙ not-true _ c.if-not-is_line.true)) ∙ l.inv.0);
-      exact = exact-on _ _ _ l.inv.3 n.read_on-event.ensures.exact;
+          rw (c.stop_after.ensures, c.count-tally.ensures, closed_in _ _ _ (drains-paid _ _ _ l.invariant.1 _ e))
+          (sym (pour_last _ _ _ l.invariant.1 _ e _ _ (sym c.has_room.ensures ∙ c.loop-words-test.true) _ _
+          c.put_event-place.ensures.written (sym c.is_line.ensures ∙ c.if-not-is_line.true)) ∙ l.invariant.0);
+      exact = exact-on _ _ _ l.invariant.3 c.read_on-event.ensures.exact;
     }
 
 pub loop-words-smaller : goal.loop-words-smaller
 loop-words-smaller c =
-    let j = c in
-    let n = answered (written j) in
-    drains-falls _ _ _ (front n).loop.inv.1 _ n.read_on-event.ensures.answer
-    (sym j.is_line.ensures ∙ not-false _ c.if-not-is_line.false)
+    drains-falls _ _ _ c.loop-words.invariant.1 _ c.read_on-event.ensures.answer
+    (sym c.is_line.ensures ∙ c.if-not-is_line.false)
 
 pub loop-words-preserved : goal.loop-words-preserved
 loop-words-preserved c =
-    let j = c in
-    let w = written j in
-    let n = answered w in
-    let l = (front n).loop in
-    let e = n.read_on-event.ensures.answer in
-    let i = sym j.is_line.ensures ∙ not-false _ c.if-not-is_line.false in (
-      rw j.count-tally.ensures
-          (sym (pour_line _ _ _ l.inv.1 _ e _ _ (room n) _ _ w.put_event-place.ensures.written i)
-          ∙ l.inv.0),
-      rw j.count-tally.ensures (drains-on _ _ _ l.inv.1 _ e i),
-      rw n.read_on-event.ensures.exact.size l.inv.2,
-      exact-on _ _ _ l.inv.3 n.read_on-event.ensures.exact,
-      n.read_on-event.kept.1.1.0 ∙ l.inv.4,
-      w.put_event-place.kept.0 ∙ l.inv.5,
+    let l = c.loop-words in
+    let e = c.read_on-event.ensures.answer in
+    let i = sym c.is_line.ensures ∙ c.if-not-is_line.false in
+    (
+      rw c.count-tally.ensures
+          (sym (pour_line _ _ _ l.invariant.1 _ e _ _ (sym c.has_room.ensures ∙ c.loop-words-test.true) _ _
+          c.put_event-place.ensures.written i) ∙ l.invariant.0),
+      rw c.count-tally.ensures (drains-on _ _ _ l.invariant.1 _ e i),
+      rw c.read_on-event.ensures.exact.size l.invariant.2,
+      exact-on _ _ _ l.invariant.3 c.read_on-event.ensures.exact,
     )
 
 pub returns : goal.returns

@@ -1,6 +1,5 @@
 -- Why `pour` meets its contract: the words are too few, nothing is owed, there is no room, next is refused, or it is called.
 use Rattle.std.proofs.Common.{◌≡◌, ℕ, ◌+◌, ◌≤◌, List, length, sym, refl, ◌∙◌, arith, leb-true}
-use borrow.Author.Tests.{not-true, not-false}
 use Rattle.lines.specs.Line.{longest_line}
 use Rattle.state.specs.Words.{state_words, Exact}
 use Rattle.capture.specs.declared.session.Session.{Session}
@@ -25,48 +24,38 @@ returns-then-words-lt-STATE_WORDS c =
 pub returns-then-not-is_busy : goal.returns-then-not-is_busy
 returns-then-not-is_busy c =
     long c.if-words-lt-STATE_WORDS.false
-    (sym (pour_idle _ _ _ _ _ (sym c.is_busy.ensures ∙ not-true _ c.if-not-is_busy.true))) (exact_none _)
+    (sym (pour_idle _ _ _ _ _ (sym c.is_busy.ensures ∙ c.if-not-is_busy.true))) (exact_none _)
 
 pub returns-then-not-has_room : goal.returns-then-not-has_room
 returns-then-not-has_room c =
-    let b = c in
-    long b.if-words-lt-STATE_WORDS.false
-    (sym (pour_full _ _ _ _ _ (sym b.is_busy.ensures ∙ not-false _ b.if-not-is_busy.false)
-    (sym c.has_room.ensures ∙ not-true _ c.if-not-has_room.true))) (exact_none _)
+    long c.if-words-lt-STATE_WORDS.false
+    (sym (pour_full _ _ _ _ _ (sym c.is_busy.ensures ∙ c.if-not-is_busy.false)
+    (sym c.has_room.ensures ∙ c.if-not-has_room.true))) (exact_none _)
 
 pub put_refused-at-requires : goal.put_refused-at-requires
 put_refused-at-requires c =
-    let r = c in
-    let s = r in
-    let l = leb-true (s.args.at + longest_line) (length s.args.out.now)
-    (sym r.has_room.ensures ∙ not-false _ r.if-not-has_room.false) in
+    let l = leb-true (c.args.at + longest_line) (length c.args.out.now)
+    (sym c.has_room.ensures ∙ c.if-not-has_room.false) in
     omega arith
 
 pub returns-then-is_short : goal.returns-then-is_short
 returns-then-is_short c =
-    let w = c in
-    let f = w in
-    let r = f in
-    let b = r in
-    long b.if-words-lt-STATE_WORDS.false
+    long c.if-words-lt-STATE_WORDS.false
     (rw c.end-session.ensures
-    (sym (pour_short _ _ _ _ _ (sym b.is_busy.ensures ∙ not-false _ b.if-not-is_busy.false)
-    (sym r.has_room.ensures ∙ not-false _ r.if-not-has_room.false) (sym f.is_short.ensures ∙ f.if-is_short.true) _ _
-    w.Put-refused.ensures.written))) (exact_none _)
+    (sym (pour_short _ _ _ _ _ (sym c.is_busy.ensures ∙ c.if-not-is_busy.false)
+    (sym c.has_room.ensures ∙ c.if-not-has_room.false) (sym c.is_short.ensures ∙ c.if-is_short.true) _ _
+    c.put_refused-at.ensures.written))) (exact_none _)
 
 pub drain-requires : goal.drain-requires
 drain-requires c =
-    let f = c in
-    let b = f in (
-      b.if-words-lt-STATE_WORDS.false,
+    (
+      c.if-words-lt-STATE_WORDS.false,
       record {
-        owed = sym b.is_busy.ensures ∙ not-false _ b.if-not-is_busy.false;
-        long = sym f.is_short.ensures ∙ f.if-is_short.false;
+        owed = sym c.is_busy.ensures ∙ c.if-not-is_busy.false;
+        long = sym c.is_short.ensures ∙ c.if-is_short.false;
       },
     )
 
 pub returns : goal.returns
 returns c =
-    let d = c in
-    let b = d in
-    long b.if-words-lt-STATE_WORDS.false d.drain.ensures.answer d.drain.ensures.exact
+    long c.if-words-lt-STATE_WORDS.false c.drain.ensures.answer c.drain.ensures.exact

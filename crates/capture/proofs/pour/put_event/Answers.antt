@@ -11,17 +11,14 @@ returns-in-Nothing c = rw c.in-Nothing.is (record { written = sym (wrote_none _ 
 pub returns-in-Note : goal.returns-in-Note
 unfolding event_line
 returns-in-Note c =
-    let a = c in
-    rw a.in-Note.is (put-within a.put_note.ensures (omega arith))
+    rw c.in-Note.is (put-within c.put_note.ensures (omega arith))
 
 pub returns-in-Unit : goal.returns-in-Unit
 unfolding event_line
 returns-in-Unit c =
-    let a = c in
-    rw a.in-Unit.is (put-within a.put_unit.ensures (omega arith))
+    rw c.in-Unit.is (put-within c.put_unit.ensures (omega arith))
 
 pub returns-in-Refused : goal.returns-in-Refused
 unfolding event_line
 returns-in-Refused c =
-    let a = c in
-    rw a.in-Refused.is (put-within a.Put-refused.ensures (omega arith))
+    rw c.in-Refused.is (put-within c.put_refused.ensures (omega arith))

@@ -10,19 +10,20 @@ use Rattle.delivery.proofs.WithinLaws.{joined-reach, first-inside, joined-room}
 use Rattle.delivery.specs.Packet.{bytes_at, unit_in, step_of}
 use Rattle.delivery.specs.Words.{channel_place}
 use Rattle.delivery.proofs.Joining.{joins-by}
-use borrow.Author.Rules.{rules}
 use Rattle.delivery.proofs.packet.join.Goals as goal
+use Rattle.delivery.proofs.packet.join.Goals.{After-part-m, After-first_unit-u, After-join-j}
 
 -- the packet's bytes, its data unit, the state and the step are those of the definition
-bytes : (d : goal.After-part-m) → let a = d.args in
+bytes : (d : After-part-m) → let a = d.args in
     d.part-m.result.now ≡ bytes_at a.l a.memory.now
 bytes d = rw (d.part-m.ensures, d.distance-len.ensures)
 
-unit : (d : goal.After-first_unit-u) → let a = d.args in
+unit : (d : After-first_unit-u) → let a = d.args in
     d.first_unit-u.result ≡ unit_in a.l a.memory.now
-unit d = rw (d.first_unit-u.ensures, bytes d)
+unit d =
+    rw (d.part-m.ensures, d.distance-len.ensures) at d.first_unit-u.ensures
 
-step : (d : goal.After-join-j)
+step : (d : After-join-j)
     → let a = d.args in
     d.join-j.result ≡ step_of (read_channel a.t.now (channel_place a.k a.l.packet.place)) a.l a.memory.now a.rules
 step d =
@@ -30,7 +31,9 @@ step d =
       d.join-j.ensures,
       d.load_channel-ch.ensures,
       d.piece-p.ensures,
-      unit d,
+      d.first_unit-u.ensures,
+      d.part-m.ensures,
+      d.distance-len.ensures,
     )
 
 pub piece-p-requires : goal.piece-p-requires
@@ -38,76 +41,57 @@ piece-p-requires c = rw c.first_unit-u.ensures (first-inside _ _).ordered
 
 pub overflow_add-at : goal.overflow_add-at
 overflow_add-at c =
-    let s = c in
-    let h : s.args.k + 14 * s.args.l.packet.place < 18446744073709551616 = omega (arith, s.requires, s.well_formed) in
+    let h : c.args.k + 14 * c.args.l.packet.place < 18446744073709551616 = omega (arith, c.requires, c.well_formed) in
     record { fits = h }
 
 pub overflow_mul-base : goal.overflow_mul-base
 overflow_mul-base c =
-    let s = c in
-    let a = s.args in
-    let h : a.l.packet.place * a.rules.limit < 18446744073709551616 = omega (arith, s.requires.3) in
+    let a = c.args in
+    let h : a.l.packet.place * a.rules.limit < 18446744073709551616 = omega (arith, c.requires.3) in
     record { fits = h }
 
 pub collect-requires : goal.collect-requires
 collect-requires c =
-    let j = c in
-    let f = j in
-    let s = f in
-    let a = s.args in
-    rw (step j, unit f, bytes f)
-    (joined-room _ a.l a.memory.now a.collecting.now a.rules s.requires.3)
+    let a = c.args in
+    let g = goal.at.collect-requires c in
+    rw (step g.After-join-j, unit g.After-first_unit-u, bytes g.After-part-m)
+    (joined-room _ a.l a.memory.now a.collecting.now a.rules c.requires.3)
 
 pub keep-requires : goal.keep-requires
 keep-requires c =
-    let j = c in
-    let f = j in
-    let s = f in
-    omega (arith, s.requires.1, s.requires.2)
+    omega (arith, c.requires.1, c.requires.2)
 
 pub put_notes-requires : goal.put_notes-requires
 put_notes-requires c =
-    let d = c in
-    let j = d in
-    let f = j in
-    let s = f in
-    omega (arith, s.requires.0, s.requires.1, d.keep.ensures.within.size)
+    omega (arith, c.requires.0, c.requires.1, c.keep.ensures.within.size)
 
 pub give-requires : goal.give-requires
 give-requires c =
-    let d = c in
-    let j = d in
-    let f = j in
-    let s = f in
-    let a = s.args in
+    let a = c.args in
     let p = a.memory.now in
-    let k : a.l.start < 18446744073709551616 = omega (arith, s.well_formed) in
-    let n : a.rules.limit < 18446744073709551616 = omega (arith, s.well_formed) in
-    let z : length p < 18446744073709551616 = omega (arith, s.well_formed) in
+    let k : a.l.start < 18446744073709551616 = omega (arith, c.well_formed) in
+    let n : a.rules.limit < 18446744073709551616 = omega (arith, c.well_formed) in
+    let z : length p < 18446744073709551616 = omega (arith, c.well_formed) in
     let i = first-inside (bytes_at a.l p) a.l.packet.payload in
     let w : (unit_in a.l p).start ≤ length (bytes_at a.l p) = omega (arith, i.ordered, i.within) in
-    rw (step j, unit f) (
+    let g = goal.at.give-requires c in
+    rw (step g.After-join-j, unit g.After-first_unit-u) (
       omega (
         arith,
-        s.requires.0,
-        s.requires.1,
+        c.requires.0,
+        c.requires.1,
         c.put_notes.ensures.put.size,
-        d.keep.ensures.within.size,
+        c.keep.ensures.within.size,
       ),
       i.ordered,
       part-reach _ a.l.start _ _ _ k z w,
-      joined-reach _ a.l p a.collecting.now a.rules s.requires.3 n,
+      joined-reach _ a.l p a.collecting.now a.rules c.requires.3 n,
     )
 
 pub returns : goal.returns
 returns c =
-    let n = c in
-    let d = n in
-    let e = d in
-    let j = e in
-    let f = j in
-    let s = f in
-    let a = s.args in
-    joins-by a.t.now _ _ _ a.i a.k a.l a.memory.now a.collecting.now _ a.rules s.requires.0 _ _ _
-    (bytes f) (unit f) (step j) e.collect.ensures d.keep.ensures n.put_notes.ensures
+    let a = c.args in
+    let g = goal.at.returns c in
+    joins-by a.t.now _ _ _ a.i a.k a.l a.memory.now a.collecting.now _ a.rules c.requires.0 _ _ _
+    (bytes g.After-part-m) (unit g.After-first_unit-u) (step g.After-join-j) c.collect.ensures c.keep.ensures c.put_notes.ensures
     c.give.ensures

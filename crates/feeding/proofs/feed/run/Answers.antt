@@ -10,13 +10,9 @@ returns-then-b-n c =
 
 pub returns : goal.returns
 returns c =
-    let o = c in
-    let a = o in
-    let z = a in
-    let s = z in
     record {
       answer =
-          sym (ran-whole _ _ _ _ _ _ (rw z.size-n.ensures.0 at z.if-b-n.false) _ _ _ a.act-acted.ensures.answer _ _ _
-          (o.pour.ensures.long (rw a.act-acted.ensures.exact.size-n s.requires.0)));
-      exact = exact-on _ _ _ a.act-acted.ensures.exact o.pour.ensures.exact;
+          sym (ran-whole _ _ _ _ _ _ (rw c.size-n.ensures.0 at c.if-b-n.false) _ _ _ c.act-acted.ensures.answer _ _ _
+          (c.pour.ensures.long (rw c.act-acted.ensures.exact.size c.requires.0)));
+      exact = exact-on _ _ _ c.act-acted.ensures.exact c.pour.ensures.exact;
     }

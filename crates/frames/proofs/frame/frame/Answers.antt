@@ -1,4 +1,5 @@
 -- Why frame meets its contract: each return is one case of the definition.
+use mathlib.Core.List.{[]}
 use mathlib.Core.Path.{refl, sym, ◌∙◌, ap}
 use Rattle.tmcc.specs.Block.{decode_of}
 use Rattle.state.proofs.LentLaws.{stream_in}
@@ -15,27 +16,19 @@ returns-then-block-ne-BLOCK_BYTES c = leaves-refused _ _ _ _ c.if-words-lt-STATE
 
 pub returns-then-is_busy : goal.returns-then-is_busy
 returns-then-is_busy c =
-    let b = c in
-    leaves-refused _ _ _ _ b.if-words-lt-STATE_WORDS.false
-    (ap (λ (x : Called). (x, [])) (frame-busy _ _ b.if-block-ne-BLOCK_BYTES.false (sym c.is_busy.ensures ∙ c.if-is_busy.true)))
+    leaves-refused _ _ _ _ c.if-words-lt-STATE_WORDS.false
+    (ap (λ (x : Called). (x, [])) (frame-busy _ _ c.if-block-ne-BLOCK_BYTES.false (sym c.is_busy.ensures ∙ c.if-is_busy.true)))
 
 pub returns-then-refusal-ne0 : goal.returns-then-refusal-ne0
 returns-then-refusal-ne0 c =
-    let d = c in
-    let f = d in
-    let b = f in
-    let e = d.decode-decoded.ensures ∙ ap (decode_of _) (sym (stream_in _)) in
-    let free = sym f.is_busy.ensures ∙ f.if-is_busy.false in
-    leaves-refused _ _ _ _ b.if-words-lt-STATE_WORDS.false
-    (rw e (ap (λ (x : Called). (x, [])) (frame_refused _ _ b.if-block-ne-BLOCK_BYTES.false free (rw e at c.if-refusal-ne0.true))))
+    let e = c.decode-decoded.ensures ∙ ap (decode_of _) (sym (stream_in _)) in
+    let free = sym c.is_busy.ensures ∙ c.if-is_busy.false in
+    leaves-refused _ _ _ _ c.if-words-lt-STATE_WORDS.false
+    (rw e (ap (λ (x : Called). (x, [])) (frame_refused _ _ c.if-block-ne-BLOCK_BYTES.false free (rw e at c.if-refusal-ne0.true))))
 
 pub returns : goal.returns
 returns c =
-    let z = c in
-    let d = z in
-    let f = d in
-    let b = f in
-    let e = d.decode-decoded.ensures ∙ ap (decode_of _) (sym (stream_in _)) in
-    let free = sym f.is_busy.ensures ∙ f.if-is_busy.false in
-    leaves-accepted _ _ _ _ _ _ _ b.if-words-lt-STATE_WORDS.false refl c.put_frame.ensures
-    (rw e (ap (λ (x : Called). (x, [])) (frame-accepted _ _ b.if-block-ne-BLOCK_BYTES.false free (rw e at z.if-refusal-ne0.false))))
+    let e = c.decode-decoded.ensures ∙ ap (decode_of _) (sym (stream_in _)) in
+    let free = sym c.is_busy.ensures ∙ c.if-is_busy.false in
+    leaves-accepted _ _ _ _ _ _ _ c.if-words-lt-STATE_WORDS.false refl c.put_frame.ensures
+    (rw e (ap (λ (x : Called). (x, [])) (frame-accepted _ _ c.if-block-ne-BLOCK_BYTES.false free (rw e at c.if-refusal-ne0.false))))

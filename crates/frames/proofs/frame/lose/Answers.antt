@@ -13,14 +13,13 @@ use Rattle.frames.proofs.frame.lose.Goals as goal
 pub returns : goal.returns
 unfolding loss_of state_in flag_of
 returns c =
-    let d = c in
-    let e = d.settle.ensures in
+    let e = c.settle.ensures in
     record {
       state =
-          state-owed d.settle.new.0 1 (omega (arith, c.requires, e.exact.size))
+          state-owed c.settle.new.words 1 (omega (arith, c.requires, e.exact.size))
           ∙ ap (λ (x : State). with_owed x true) e.state
-          ∙ rw (d.lose-lost.ensures, d.load_held.ensures);
+          ∙ rw (c.lose-lost.ensures, c.load_held.ensures);
       exact =
           exact-on _ _ _ e.exact
-          (exact-owed d.settle.new.0 true (omega (arith, c.requires, e.exact.size)));
+          (exact-owed c.settle.new.words true (omega (arith, c.requires, e.exact.size)));
     }

@@ -1,4 +1,5 @@
 -- Why lost_frame meets its contract: each return is one case of the definition.
+use mathlib.Core.List.{[]}
 use mathlib.Core.Path.{refl, sym, ◌∙◌, ap}
 use Rattle.state.proofs.Leaves.{leaves-short, leaves-refused, leaves-accepted}
 use Rattle.frames.proofs.FrameLaws.{lost-frame-busy, lost-frame-accepted}
@@ -15,6 +16,5 @@ returns-then-is_busy c =
 
 pub returns : goal.returns
 returns c =
-    let b = c in
-    leaves-accepted _ _ _ _ _ _ _ b.if-words-lt-STATE_WORDS.false refl c.lose.ensures
-    (ap (λ (x : Called). (x, [])) (lost-frame-accepted _ (sym b.is_busy.ensures ∙ b.if-is_busy.false)))
+    leaves-accepted _ _ _ _ _ _ _ c.if-words-lt-STATE_WORDS.false refl c.lose.ensures
+    (ap (λ (x : Called). (x, [])) (lost-frame-accepted _ (sym c.is_busy.ensures ∙ c.if-is_busy.false)))

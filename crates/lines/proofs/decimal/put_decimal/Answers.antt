@@ -8,6 +8,7 @@ use Rattle.lines.specs.Decimal.{decimal, without_groups, groups, last_groups}
 use Rattle.lines.proofs.DecimalLaws.{groups-first, groups-behind, length-groups}
 use Rattle.lines.proofs.TextLaws.{written-room, written-more}
 use Rattle.lines.proofs.decimal.put_decimal.Goals as goal
+use Rattle.lines.proofs.decimal.put_decimal.Goals.{After-without_groups}
 
 -- the number is `a` and the last `k` groups
 record Split (n k a : ℕ) : Type 0 where
@@ -23,40 +24,28 @@ split n k a h l e f =
     let i = length-groups n (groups 4 n) in
     rw (f, e) (record { most = g.most; short = g.short; parts = p; size = rw (p, length-append) (omega arith) })
 
-text : (c : goal.After-without_groups) → let a = c in
-    Split a.args.n a.count_groups-k.result c.without_groups.result
-text c =
-    let a = c in
-    let s = a in
-    split _ _ _ a.if-n-lt10000.false s.ranges.n.fits a.count_groups-k.ensures c.without_groups.ensures
+text : (c : After-without_groups) → Split c.args.n c.count_groups-k.result c.without_groups.result
+text c = split _ _ _ c.if-n-lt10000.false c.ranges.n.fits c.count_groups-k.ensures c.without_groups.ensures
 
 pub without_groups-requires : goal.without_groups-requires
 without_groups-requires c =
-    let a = c in
-    let s = a in
-    let g = groups-first 4 s.args.n (omega (arith, a.if-n-lt10000.false)) (omega (arith, s.ranges.n.fits)) in
-    rw a.count_groups-k.ensures g.most
+    let g = groups-first 4 c.args.n (omega (arith, c.if-n-lt10000.false)) (omega (arith, c.ranges.n.fits)) in
+    rw c.count_groups-k.ensures g.most
 
 pub put_short-next-requires : goal.put_short-next-requires
 put_short-next-requires c =
-    let t = text c in
-    let s = c in
-    (t.short, omega (arith, t.size, s.requires))
+    let t = text (goal.at.put_short-next-requires c).After-without_groups in
+    (t.short, omega (arith, t.size, c.requires))
 
 pub put_groups-requires : goal.put_groups-requires
 put_groups-requires c =
-    let a = c in
-    let t = text a in
-    let s = a in
-    (t.most, written-room _ _ _ _ _ a.put_short-next.ensures _ (omega (arith, t.size, s.requires)))
+    let t = text (goal.at.put_groups-requires c).After-without_groups in
+    (t.most, written-room _ _ _ _ _ c.put_short-next.ensures _ (omega (arith, t.size, c.requires)))
 
 pub returns : goal.returns
 returns c =
-    let b = c in
-    let a = b in
-    let t = text a in
-    let s = a in
-    let n = s.args.n in
-    let k = a.count_groups-k.result in
+    let t = text (goal.at.returns c).After-without_groups in
+    let n = c.args.n in
+    let k = c.count_groups-k.result in
     rw t.parts
-    (written-more _ _ _ _ _ a.put_short-next.ensures _ _ _ b.put_groups.ensures (omega (arith, t.size, length-groups n k, s.requires)))
+    (written-more _ _ _ _ _ c.put_short-next.ensures _ _ _ c.put_groups.ensures (omega (arith, t.size, length-groups n k, c.requires)))

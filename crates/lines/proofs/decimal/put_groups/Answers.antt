@@ -1,19 +1,13 @@
-use Prim.Native.Nat.{ℕ, suc, ◌+◌, ◌-◌, ◌*◌, ◌%◌, ◌≤◌}
+use Prim.Native.Nat.{ℕ, suc, ◌-◌, ◌*◌, ◌%◌}
 use mathlib.Core.Path.{◌≡◌, refl, sym, ◌∙◌}
 use mathlib.Core.List.{List}
 use native.Mathlib.Omega.{arith}
-use lib.ListN.{length}
 use Rattle.lines.specs.Decimal.{four, without_groups, last_groups}
 use Rattle.lines.proofs.DecimalLaws.{length-four, length-groups}
 use Rattle.lines.specs.Text.{wrote}
 use Rattle.lines.proofs.TextLaws.{wrote_none, written-length, written-room, written-more}
 use Rattle.lines.proofs.decimal.put_groups.Goals as goal
-
-record Goes (out₀ : List ℕ) (at n k : ℕ) (out : List ℕ) (left end : ℕ) : Type 0 where
-  within : left ≤ 4
-  same : length out ≡ length out₀
-  room : end + 4 * left ≤ length out
-  whole : wrote out end (last_groups n left) ≡ wrote out₀ at (last_groups n k)
+use Rattle.lines.proofs.decimal.put_groups.Invariants.{Goes}
 
 turn : (out₀ out o : List ℕ) (at n k left end r : ℕ) → Goes out₀ at n k out (suc left) end
     → (r, o) ≡ wrote out end (four (without_groups n left % 10000)) → Goes out₀ at n k o left r
@@ -32,7 +26,7 @@ turn out₀ out o at n k left end r g e =
     }
 
 pub loop-left-init : goal.loop-left-init
-loop-left-init c = let s = c in record { within = s.requires.0; same = refl; room = s.requires.1; whole = refl }
+loop-left-init c = record { within = c.requires.0; same = refl; room = c.requires.1; whole = refl }
 
 pub overflow_sub-left : goal.overflow_sub-left
 overflow_sub-left c = omega arith
@@ -47,14 +41,9 @@ loop-left-smaller c = omega arith
 
 pub loop-left-preserved : goal.loop-left-preserved
 loop-left-preserved c =
-    let a = c in
-    let l = a in
-    let k = l.loop-left.left in
+    let k = c.loop-left.left in
     let z : k ≡ suc (k - 1) = omega arith in
-    turn _ _ _ _ _ _ _ _ _ (rw z at l.loop-left.invariant) a.put_group-end.ensures
-
-pub shape_of-out : goal.shape_of-out
-shape_of-out c = c.loop-left.invariant.same
+    turn _ _ _ _ _ _ _ _ _ (rw z at c.loop-left.invariant) c.put_group-end.ensures
 
 pub returns : goal.returns
 unfolding last_groups

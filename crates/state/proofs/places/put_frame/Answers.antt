@@ -9,11 +9,10 @@ use Rattle.state.proofs.places.put_frame.Goals as goal
 pub returns : goal.returns
 returns c =
     let d = c.put_slots in
-    let s = c in
     let l = d.ensures in
     record {
       state =
-          state-at d.new.0 0 (omega (arith, s.requires, l.within.size))
+          state-at d.new.t 0 (omega (arith, c.requires, l.within.size))
           ∙ ap (λ (x : State). with_frame x (record { layout = x.frame.layout; at = 0 })) (state-layout _ _ _ l);
-      exact = exact-on _ _ _ (exact-slots _ _ l.within l.clean) (exact-at d.new.0 0);
+      exact = exact-on _ _ _ (exact-slots _ _ l.within l.clean) (exact-at d.new.t 0);
     }

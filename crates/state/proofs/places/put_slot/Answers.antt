@@ -1,6 +1,6 @@
 -- Why put_slot meets its contract: four stores, one behind the other; a u16 is below 65,536.
 use Prim.Native.Nat.{◌+◌, ◌*◌}
-use mathlib.Core.List.{◌∷◌}
+use mathlib.Core.List.{[], ◌∷◌}
 use mathlib.Core.Path.{refl}
 use native.Mathlib.Omega.{arith}
 use native.Mathlib.Nat.{add-zero}

@@ -1,4 +1,5 @@
 -- Why start meets its contract: too few words, accepted where there is no refusal, or refused.
+use mathlib.Core.List.{[]}
 use mathlib.Core.Path.{sym, ◌∙◌, ap}
 use native.Mathlib.Omega.{arith}
 use Rattle.state.proofs.Leaves.{leaves-short, leaves-refused, leaves-accepted}
