@@ -56,7 +56,7 @@ returns-then-not-is_given c =
     let i = c.loop-n.invariant in
     let ahead = rw (one_less _ _ c.loop-n-test.true) at i.same in
     let next = c.read_on-event.ensures.answer
-        ∙ sym (next-reads _ _ _ i.suffice (sym c.is_owed.ensures ∙ c.if-not-is_owed.false)) in
+    ∙ sym (next-reads _ _ _ i.suffice (sym c.is_owed.ensures ∙ c.if-not-is_owed.false)) in
     record {
       answer = sym (gave-none _ c.loop-n.at _ _ _ _ _ _ next (sym c.is_given.ensures ∙ c.if-not-is_given.true)) ∙ ahead;
       exact = exact-on _ _ _ i.exact c.read_on-event.ensures.exact;
@@ -67,7 +67,7 @@ returns-then-is_joined c =
     let i = c.loop-n.invariant in
     let ahead = rw (one_less _ _ c.loop-n-test.true) at i.same in
     let next = c.read_on-event.ensures.answer
-        ∙ sym (next-reads _ _ _ i.suffice (sym c.is_owed.ensures ∙ c.if-not-is_owed.false)) in
+    ∙ sym (next-reads _ _ _ i.suffice (sym c.is_owed.ensures ∙ c.if-not-is_owed.false)) in
     let room = roomy _ _ _ _ i.place c.loop-n.auto.records c.loop-n-test.true in
     record {
       answer =
@@ -82,7 +82,7 @@ loop-n-preserved c =
     let i = c.loop-n.invariant in
     let ahead = rw (one_less _ _ c.loop-n-test.true) at i.same in
     let next = c.read_on-event.ensures.answer
-        ∙ sym (next-reads _ _ _ i.suffice (sym c.is_owed.ensures ∙ c.if-not-is_owed.false)) in
+    ∙ sym (next-reads _ _ _ i.suffice (sym c.is_owed.ensures ∙ c.if-not-is_owed.false)) in
     let room = roomy _ _ _ _ i.place c.loop-n.auto.records c.loop-n-test.true in
     let k = rw (← next) at (next-calm (state_in c.loop-n.words) c.args.packet.now c.loop-n.collecting) in
     record {

@@ -37,8 +37,7 @@ pub loop-words-preserved : goal.loop-words-preserved
 loop-words-preserved c =
     let l = c.loop-words in
     let e = c.read_on-event.ensures.answer in
-    let i = sym c.is_line.ensures ∙ c.if-not-is_line.false in
-    (
+    let i = sym c.is_line.ensures ∙ c.if-not-is_line.false in (
       rw c.count-tally.ensures
           (sym (pour_line _ _ _ l.invariant.1 _ e _ _ (sym c.has_room.ensures ∙ c.loop-words-test.true) _ _
           c.put_event-place.ensures.written i) ∙ l.invariant.0),

@@ -47,14 +47,13 @@ returns-then-is_short c =
     c.put_refused-at.ensures.written))) (exact_none _)
 
 pub drain-requires : goal.drain-requires
-drain-requires c =
-    (
-      c.if-words-lt-STATE_WORDS.false,
-      record {
-        owed = sym c.is_busy.ensures ∙ c.if-not-is_busy.false;
-        long = sym c.is_short.ensures ∙ c.if-is_short.false;
-      },
-    )
+drain-requires c = (
+  c.if-words-lt-STATE_WORDS.false,
+  record {
+    owed = sym c.is_busy.ensures ∙ c.if-not-is_busy.false;
+    long = sym c.is_short.ensures ∙ c.if-is_short.false;
+  },
+)
 
 pub returns : goal.returns
 returns c =

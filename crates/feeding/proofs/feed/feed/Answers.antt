@@ -1,10 +1,9 @@
-use Prim.Native.Nat.{◌+◌, ◌≤◌}
-use mathlib.Core.Path.{◌≡◌, refl, sym, ◌∙◌, ap}
+use Prim.Native.Nat.{◌+◌}
+use mathlib.Core.Path.{refl, sym, ◌∙◌, ap}
 use native.Mathlib.Omega.{arith}
 use borrow.Author.Tests.{leb-true}
 use lib.ListN.{length}
 use Rattle.lines.specs.Line.{longest_line}
-use Rattle.capture.specs.Command.{longest_command}
 use Rattle.feeding.specs.Feed.{fed_from}
 use Rattle.feeding.proofs.FeedLaws.{goes-room, goes-read, taken-by, source_some, turn_by_lem, fed-turn, fed-stops, fed-short, fed-long}
 use Rattle.state.proofs.Clean.{exact_none, exact-on}
@@ -53,8 +52,7 @@ pub run-ran-requires : goal.run-ran-requires
 run-ran-requires c =
     let i = c.loop-command.invariant in
     let g = sym c.goes_on.ensures ∙ c.loop-command-test.true in
-    let t = taken-by _ _ _ _ _ _ c.take_bytes-turn.ensures i.keeps (goes-read _ _ _ _ _ g) i.command in
-    (
+    let t = taken-by _ _ _ _ _ _ c.take_bytes-turn.ensures i.keeps (goes-read _ _ _ _ _ g) i.command in (
       i.words,
       rw c.source-b.ensures (source_some _ _ _ _ _ t.0 t.1 (omega (arith, t.2, t.3, i.command))),
       leb-true (c.loop-command.written + longest_line) (length c.loop-command.out) (goes-room _ _ _ _ _ g),
