@@ -9,7 +9,7 @@ use lib.ListN.{length, get_or}
 use lib.Dec.{eqb, ltb}
 use borrow.Author.Tests.{eqb-true, eqb-false, ltb-true, ltb-false}
 use Rattle.wire.proofs.Choice.{either}
-use Rattle.tmcc.specs.declared.block.Decoded.{Decoded}
+use Rattle.tmcc.specs.Decoded.{Decoded}
 use Rattle.tmcc.specs.declared.layout.Pointers.{Pointers}
 use Rattle.wire.proofs.TabLaws.{get_or-tab, length-tab}
 use Rattle.tmcc.specs.Count.{all_below, count_below}

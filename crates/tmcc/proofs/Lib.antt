@@ -2,6 +2,8 @@
 pub mod Cases
 pub mod Table
 pub mod Laws
+pub mod One
+pub mod Slots
 pub mod Specimens
 pub mod BlockLaws
 pub mod CountLaws

@@ -1,6 +1,6 @@
 -- The control block: refusals 10, 12, 13 and 14 in this order, or the layout for the stream with an id.
 use Rattle.std.specs.Prelude.{ℕ, ◌≡◌, true, cond, List, length, eqb}
-use Rattle.tmcc.specs.declared.block.Decoded.{Decoded}
+use Rattle.tmcc.specs.Decoded.{Decoded}
 use Rattle.tmcc.specs.Count.{count_below, last_below}
 use Rattle.tmcc.specs.Mode.{modes_good}
 use Rattle.tmcc.specs.Stream.{chosen, own_slot}

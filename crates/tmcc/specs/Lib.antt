@@ -3,5 +3,6 @@ pub mod Count
 pub mod Mode
 pub mod Stream
 pub mod Layout
+pub mod Decoded
 pub mod Block
 pub mod Specimens

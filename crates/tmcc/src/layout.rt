@@ -1,62 +1,63 @@
 // The frame's layout: pointers, data length and ownership of each of its 120 slots.
-ghost use Rattle.std.specs.Prelude.{◌≡◌, ◌<◌, ◌≤◌, length};
-ghost use Rattle.tmcc.specs.Layout.{pointers_at, layout_of, blank_layout};
+ghost use Rattle.std.specs.Prelude.{◌≡◌, ◌<◌};
+ghost use Rattle.std.specs.List.{list_any};
+ghost use Rattle.tmcc.specs.Layout.{pointers_at, slot_at, layout_of, as_layout};
 
-use wire::field;
+use crate::block::BLOCK_BYTES;
+use crate::{mode, stream};
+use std::array;
+use wire::field::Field;
 
 // Top pointer and last pointer.
 #[derive(Clone, Copy)]
 pub struct Pointers(pub u16, pub u16);
 
 #[derive(Clone, Copy)]
-pub struct Layout {
-    pub pointers: [Pointers; 120],
+pub struct Slot {
+    pub pointers: Pointers,
     // Data bytes; 0 for a dummy.
-    pub lengths: [u16; 120],
+    pub length: u16,
     // Live, and of the chosen stream.
-    pub own: [bool; 120],
+    pub own: bool,
 }
 
-fn pointers_at(block: &[u8], s: usize) -> Pointers
-    requires { (s < 120) × (length block.now ≡ 1178) }
+#[derive(Clone, Copy)]
+pub struct Layout {
+    pub slots: [Slot; 120],
+}
+
+fn pointers_at(block: &[u8; BLOCK_BYTES], s: usize) -> Pointers
+    requires { s < 120 }
     ensures { result ≡ pointers_at block.now s }
 {
-    Pointers(
-        field::read16(block, 153 + 4 * s),
-        field::read16(block, 155 + 4 * s),
-    )
+    Pointers(u16::read(block, 153 + 4 * s), u16::read(block, 155 + 4 * s))
 }
 
-// No frame: all slots dummy.
-pub fn blank() -> Layout
-    ensures { result ≡ blank_layout }
+// The slot `s` that a block gives, as the chosen stream's where its relative stream is `own`.
+fn slot_at(block: &[u8; BLOCK_BYTES], own: u8, s: usize) -> Slot
+    requires { s < 120 }
+    ensures { result ≡ slot_at block.now own s }
 {
-    Layout {
-        pointers: [Pointers(0, 0); 120],
-        lengths: [0; 120],
-        own: [false; 120],
+    let length = mode::slot_length(block, s);
+    Slot {
+        pointers: pointers_at(block, s),
+        length,
+        own: 0 < length && stream::of_slot(block, s) == own,
     }
 }
 
-// The layout that a block gives, with the slots of relative stream `own` as the chosen stream's.
-pub fn of_block(block: &[u8], own: u8) -> Layout
-    requires { length block.now ≡ 1178 }
-    ensures { result ≡ layout_of block.now own }
+// The layout that a block gives.
+pub fn of_block(block: &[u8; BLOCK_BYTES], own: u8) -> Layout
+    ensures { as_layout result ≡ layout_of block.now own }
 {
-    let mut pointers = [Pointers(0, 0); 120];
-    let mut lengths = [0u16; 120];
-    let mut owns = [false; 120];
-    let mut s = 0;
-    while s < 120 {
-        pointers[s] = pointers_at(block, s);
-        let len = crate::mode::slot_length(block, s);
-        lengths[s] = len;
-        owns[s] = crate::stream::is_own_live(block, own, s, len);
-        s += 1;
-    }
     Layout {
-        pointers,
-        lengths,
-        own: owns,
+        slots: array::from_fn(|s| slot_at(block, own, s)),
     }
+}
+
+// Whether some slot is live and of the chosen stream.
+pub fn has_own(layout: &Layout) -> bool
+    ensures { result ≡ list_any (λ s. s.own) layout.now.slots }
+{
+    layout.slots.iter().any(|slot| slot.own)
 }

@@ -1,5 +1,4 @@
 -- The laws that the proofs share.
-pub mod Copy
 pub mod Write
 pub mod BitsLaws
 pub mod Choice

@@ -1,31 +1,33 @@
--- A field written byte by byte, or by its halves, is its bytes put in.
-use Prim.Native.Nat.{ℕ, ◌+◌, ◌/◌, ◌%◌, ◌<◌, ◌≤◌}
-use mathlib.Core.Path.{◌≡◌, sym, ◌∙◌, ap}
-use mathlib.Core.List.{List}
-use native.Mathlib.Nat.{add-zero}
-use native.Mathlib.Omega.{arith}
-use lib.ListN.{length, set}
+-- Bytes put in by the library's methods are those of the definitions.
+use Rattle.std.specs.Prelude.{ℕ, ◌+◌, ◌/◌, ◌%◌, ◌≤◌, ◌<◌, ◌≡◌, refl, List, [], ◌∷◌, length, set}
+use Rattle.std.proofs.Common.{arith, add-zero}
+use Rattle.std.specs.Int.{to_be_bytes, w16, w32}
+use borrow.Rule.Slice.PartMut.{put_mid}
+use Rattle.std.proofs.lemmas.Slice.{put_mid-paste}
 use Rattle.wire.specs.Field.{bytes_of}
-use Rattle.wire.proofs.FieldLaws.{bytes-add, bytes-mod, length-bytes_of}
 use Rattle.wire.specs.Memory.{pasted}
-use Rattle.wire.proofs.MemoryLaws.{pasted-zero, pasted-one, pasted-append}
+use Rattle.wire.proofs.MemoryLaws.{pasted-zero, pasted-one}
 
-pub write_2 : (d : List ℕ) (i v : ℕ) → i + 2 ≤ length d → set (set d i (v / 256 % 256)) (i + 1) (v % 256) ≡ pasted d i (bytes_of 2 v) 2
+pub bytes-2 : (v : ℕ) → to_be_bytes w16 v ≡ bytes_of 2 v
 unfolding bytes_of
-write_2 d i v h =
-    let b : List ℕ = bytes_of 2 v in
-    let first : set d i (v / 256 % 256) ≡ pasted d i b 1 =
-    ap (λ (l : List ℕ). set l i (v / 256 % 256)) (pasted-zero d i b)
-    ∙ ap (λ (k : ℕ). set (pasted d i b 0) k (v / 256 % 256)) (sym (add-zero i))
-    ∙ pasted-one d i b 0 (omega arith) (omega arith) in
-    ap (λ (l : List ℕ). set l (i + 1) (v % 256)) first ∙ pasted-one d i b 1 (omega arith) (omega arith)
+bytes-2 v = refl
 
-pub write_4 : (d : List ℕ) (i v : ℕ) → i + 4 ≤ length d → v < 4294967296
-    → pasted (pasted d i (bytes_of 2 (v / 65536 % 65536)) 2) (i + 2) (bytes_of 2 (v % 65536)) 2 ≡ pasted d i (bytes_of 4 v) 4
-write_4 d i v h l =
-    let high : v / 65536 % 65536 ≡ v / 65536 = omega arith in
-    let s : List ℕ = bytes_of 2 (v / 65536) in
-    let t : List ℕ = bytes_of 2 v in
-    let n : length s ≡ 2 = length-bytes_of 2 (v / 65536) in
-    let m : length t ≡ 2 = length-bytes_of 2 v in
-    rw (high, bytes-mod 2 v, bytes-add 2 2 v) (rw (n, m) at (pasted-append d i s t (omega arith)))
+pub bytes-4 : (v : ℕ) → to_be_bytes w32 v ≡ bytes_of 4 v
+unfolding bytes_of
+bytes-4 v =
+    let two : v / 256 / 256 ≡ v / 65536 = omega arith in
+    let three : v / 256 / 256 / 256 ≡ v / 16777216 = omega arith in
+    rw (three, two)
+
+-- a part that was overwritten by the `n` bytes `b`
+pub put : (d : List ℕ) (at k : ℕ) (now b : List ℕ) (n : ℕ) → now ≡ b → n ≡ k → n ≡ length b → put_mid at k d now ≡ pasted d at b n
+unfolding pasted
+put d at k now b n e l m = put_mid-paste at k d now b n e l m
+
+-- one byte put in
+pub write_1 : (d : List ℕ) (i v : ℕ) → i + 1 ≤ length d → v < 256 → set d i v ≡ pasted d i (bytes_of 1 v) 1
+unfolding bytes_of
+write_1 d i v h l =
+    let low : v % 256 ≡ v = omega arith in
+    let b : List ℕ = v ∷ [] in
+    rw low (rw (← pasted-zero d i b, add-zero) at (pasted-one d i b 0 (omega arith) (omega arith)))

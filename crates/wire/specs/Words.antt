@@ -1,5 +1,5 @@
 -- Words of a memory: words that stand somewhere, words that are put somewhere, and what is the same elsewhere.
-use Rattle.std.specs.Prelude.{ℕ, suc, ◌+◌, ◌-◌, ◌<◌, ◌≤◌, ◌≡◌, Bool, true, false, not, ◌⊎◌, List, [], ◌∷◌, eqb, length, get_or, set}
+use Rattle.std.specs.Prelude.{ℕ, suc, ◌+◌, ◌<◌, ◌≤◌, ◌≡◌, Bool, true, false, not, ◌⊎◌, List, [], ◌∷◌, eqb, length, get_or, set}
 
 -- the words `xs`, `n` of them, stand in `t` from `i` on
 abbrev pub Holds : List ℕ → ℕ → ℕ → List ℕ → Type 0

@@ -6,13 +6,10 @@ ghost use Rattle.wire.specs.Memory.{pasted, part_of};
 pub fn part(s: &[u8], start: usize, len: usize) -> &[u8]
     ensures { result.now ≡ part_of s.now start len }
 {
-    if s.len() < start {
-        return &s[0..0];
+    match s.get(start..) {
+        Some(rest) if len <= rest.len() => &rest[..len],
+        _ => &[],
     }
-    if s.len() - start < len {
-        return &s[0..0];
-    }
-    &s[start..start + len]
 }
 
 // The bytes of `src` come to stand in `dst` from `at` on.
@@ -20,11 +17,7 @@ pub fn copy_at(dst: &mut [u8], at: usize, src: &[u8])
     requires { at + length src.now ≤ length dst.old }
     ensures { dst.new ≡ pasted dst.old at src.now (length src.now) }
 {
-    let mut i = 0;
-    while i < src.len() {
-        dst[at + i] = src[i];
-        i += 1;
-    }
+    dst[at..at + src.len()].copy_from_slice(src);
 }
 
 // The `n` bytes at `from` come to stand at `to`, which is not above.
@@ -32,19 +25,12 @@ pub fn move_down(mem: &mut [u8], to: usize, from: usize, n: usize)
     requires { (to ≤ from) × (from + n ≤ length mem.old) }
     ensures { mem.new ≡ pasted mem.old to (drop from mem.old) n }
 {
-    let mut i = 0;
-    while i < n {
-        mem[to + i] = mem[from + i];
-        i += 1;
-    }
+    mem.copy_within(from..from + n, to);
 }
 
 // How far it is from `start` to `end`; 0 where that lies before.
 pub fn distance(start: usize, end: usize) -> usize
     ensures { result ≡ end - start }
 {
-    if end < start {
-        return 0;
-    }
-    end - start
+    end.saturating_sub(start)
 }

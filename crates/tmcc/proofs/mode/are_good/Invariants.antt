@@ -1,5 +1,5 @@
 -- Why are_good meets its contract: the loop has summed the slots of the modes passed, and each of these is good.
-use Prim.Native.Nat.{◌*◌, ◌-◌, ◌≤◌}
+use Prim.Native.Nat.{◌*◌, ◌≤◌}
 use mathlib.Core.Path.{◌≡◌}
 use mathlib.Core.Bool.{true}
 use Rattle.tmcc.specs.Count.{all_below}
@@ -7,7 +7,4 @@ use Rattle.tmcc.specs.Mode.{mode_good, slots_of}
 use Rattle.tmcc.proofs.mode.are_good.Given as goal
 
 abbrev pub invariant-loop-k : goal.invariant-loop-k
-invariant-loop-k l = (l.k ≤ 8) × (l.slots ≤ 255 * l.k) × (l.slots ≡ slots_of l.block l.k) × (all_below (mode_good l.block) l.k ≡ true)
-
-abbrev pub decreases-loop-k : goal.decreases-loop-k
-decreases-loop-k l = 8 - l.k
+invariant-loop-k l = (l.slots ≤ 255 * l.k) × (l.slots ≡ slots_of l.block l.k) × (all_below (mode_good l.block) l.k ≡ true)

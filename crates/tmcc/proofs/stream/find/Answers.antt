@@ -1,43 +1,30 @@
-use mathlib.Core.Path.{◌≡◌, refl, sym, ◌∙◌}
+use mathlib.Core.Path.{◌≡◌, sym, ◌∙◌}
 use native.Mathlib.Omega.{arith}
-use Rattle.tmcc.specs.Count.{count_below, last_below}
-use Rattle.tmcc.proofs.CountLaws.{count-one, last_one}
+use Rattle.tmcc.specs.Stream.{chosen, one_stream}
+use Rattle.tmcc.proofs.One.{holds-start, holds-fail, holds-first, second, one-of}
 use Rattle.tmcc.proofs.stream.find.Goals as goal
-use Rattle.tmcc.proofs.stream.find.Goals.{then-is_chosen, else-is_chosen}
+use Rattle.tmcc.proofs.stream.find.Goals.{then-is_chosen+else-is_some, else-is_chosen}
 
 pub loop-r-init : goal.loop-r-init
-unfolding count_below last_below
-loop-r-init c = (omega arith, omega arith, refl, refl)
+loop-r-init c = holds-start _
 
-pub is_chosen-requires : goal.is_chosen-requires
-is_chosen-requires c = (omega arith, c.requires)
+pub returns-then-is_some : goal.returns-then-is_some
+unfolding one_stream
+returns-then-is_some c =
+    second _ _ _ 16 c.loop-r.invariant (sym c.is_some.ensures ∙ c.if-is_some.true) (sym c.is_chosen.ensures ∙ c.if-is_chosen.true) (omega arith)
 
 pub loop-r-preserved : goal.loop-r-preserved
 loop-r-preserved c =
-    let l = c.loop-r in
+    let h = c.loop-r.invariant in
     elim c.if-is_chosen.branch [
-      | then-is_chosen w ↦
-          let e = sym c.is_chosen.ensures ∙ w.if-is_chosen.true in
-          (omega arith, omega arith, rw (w.count-is, count-one, e, l.invariant.2), rw (w.last-is, last_one, e))
-      | else-is_chosen w ↦
-          let e = sym c.is_chosen.ensures ∙ w.if-is_chosen.false in
-          (omega arith, omega arith, rw (w.count-is, count-one, e, l.invariant.2), rw (w.last-is, last_one, e, l.invariant.3))
+      | then-is_chosen+else-is_some w ↦ rw w.found-is
+          (holds-first _ _ _ h (sym w.is_some.ensures ∙ w.if-is_some.false) (sym c.is_chosen.ensures ∙ w.if-is_chosen.true))
+      | else-is_chosen w ↦ rw w.found-is (holds-fail _ _ _ h (sym c.is_chosen.ensures ∙ w.if-is_chosen.false))
     ]
 
 pub returns : goal.returns
+unfolding one_stream
 returns c =
     let l = c.loop-r in
     let e : l.r ≡ 16 = omega arith in
-    rw (rw e at l.invariant.2, rw e at l.invariant.3)
-
-pub overflow_cast-r : goal.overflow_cast-r
-overflow_cast-r c = omega arith
-
-pub overflow_add-count : goal.overflow_add-count
-overflow_add-count c = omega arith
-
-pub overflow_add-r : goal.overflow_add-r
-overflow_add-r c = omega arith
-
-pub loop-r-smaller : goal.loop-r-smaller
-loop-r-smaller c = omega arith
+    rw (one-of (chosen c.args.block.now c.args.id) l.r l.found l.invariant, e)

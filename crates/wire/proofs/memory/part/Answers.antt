@@ -1,22 +1,20 @@
--- Why `part` meets its contract: outside, too long, or inside.
-use Rattle.wire.specs.Memory.{part_of}
-use mathlib.Core.Path.{◌≡◌}
-use Prim.Native.Nat.{◌+◌, ◌-◌}
+-- Why `part` meets its contract: inside, or outside.
+use mathlib.Core.Path.{sym, ◌∙◌}
 use native.Mathlib.Omega.{arith}
-use borrow.Author.Tests.{le-leb, lt-leb}
+use Rattle.wire.proofs.MemoryLaws.{part-inside, part-outside, slice-rest}
 use Rattle.wire.proofs.memory.part.Goals as goal
+use Rattle.wire.proofs.memory.part.Goals.{in_default-via-in-Some+else-len-rest, in_default-via-in_default}
 
-pub returns-then-s-start : goal.returns-then-s-start
-unfolding part_of
-returns-then-s-start c = rw (lt-leb _ _ c.if-s-start.true)
+pub returns-in-Some : goal.returns-in-Some
+returns-in-Some c =
+    rw (c.in-Some.ensures.lookup.0.2 ∙ slice-rest c.args.s.now c.args.start)
+    (sym (part-inside c.args.s.now c.args.start c.args.len (omega (arith, c.in-Some.ensures.lookup.0.3))))
 
-pub returns-then-s-start-2 : goal.returns-then-s-start-2
-unfolding part_of
-returns-then-s-start-2 c = rw (le-leb _ _ c.if-s-start.false, lt-leb _ _ c.if-s-start-2.true)
-
-pub returns : goal.returns
-unfolding part_of
-returns c =
-    let a = c.args in
-    let e : a.start + a.len - a.start ≡ a.len = omega arith in
-    rw (le-leb _ _ c.if-s-start.false, le-leb _ _ c.if-s-start-2.false, e)
+pub returns-in_default : goal.returns-in_default
+returns-in_default c =
+    sym
+    (part-outside c.args.s.now c.args.start c.args.len
+    (elim c.in_default.branch [
+      | in_default-via-in-Some+else-len-rest w ↦ omega (arith, w.in-Some.ensures.lookup.0.3)
+      | in_default-via-in_default w ↦ omega (arith, w.in_default.ensures.lookup.0)
+    ]))
