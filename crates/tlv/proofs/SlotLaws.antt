@@ -1,7 +1,6 @@
 -- Laws of specs/Slot.antt.
-use Rattle.std.specs.Prelude.{ℕ, ◌-◌, ◌≤◌, ◌<◌, ◌≡◌, false, ◌||◌, List, length, eqb}
+use Rattle.std.specs.Prelude.{ℕ, ◌≤◌, ◌<◌, ◌≡◌, false, ◌||◌, List, length, eqb, Some, None}
 use borrow.Author.Tests.{lt-ltb, le-ltb, eq-eqb, ne_eqb}
-use Rattle.tlv.specs.declared.packet.Walked.TheVariants.{Unmarked, Tail as TailAt}
 use Rattle.tlv.specs.Packet.{walk_of}
 use Rattle.tlv.proofs.Walks.{unmarked_bad, tail-good}
 use Rattle.tlv.specs.Slot.{none, end_from, last_pointer, sound}
@@ -17,11 +16,11 @@ module _ (s : List ℕ) (top last : ℕ) where
     unfolding sound
     unsound_outside h = rw (ne_eqb _ _ t, le-ltb _ _ h)
 
-    pub unsound_unmarked : top < length s → walk_of s top ≡ Unmarked → sound s top last ≡ false
+    pub unsound_unmarked : top < length s → walk_of s top ≡ None → sound s top last ≡ false
     unfolding sound
     unsound_unmarked h w = rw (ne_eqb _ _ t, lt-ltb _ _ h, unmarked_bad s top w)
 
-    pub sound-tail : top < length s → (end : ℕ) → walk_of s top ≡ TailAt end
+    pub sound-tail : top < length s → (end : ℕ) → walk_of s top ≡ Some end
         → sound s top last ≡ eqb last (last_pointer end)
     unfolding sound end_from
     sound-tail h end w =

@@ -1,5 +1,5 @@
 -- Laws of bytes cut into packets.
-use Rattle.std.specs.Prelude.{ℕ, ◌-◌, ◌≤◌, ◌≡◌, List, [], ◌∷◌, length}
+use Rattle.std.specs.Prelude.{ℕ, ◌≤◌, ◌≡◌, List, [], ◌∷◌, length}
 use Rattle.tlv.specs.Packet.{total}
 
 -- a packet that has its header and is as long as that says

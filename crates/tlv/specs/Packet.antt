@@ -1,10 +1,6 @@
 -- TLV packets in a list of bytes: the header, and the bytes cut into packets.
-use Rattle.std.specs.Prelude.{ℕ, zero, suc, ◌+◌, ◌-◌, Bool, true, cond, ◌&&◌, List, [], ◌∷◌, length, take, drop, eqb, leb, ltb}
+use Rattle.std.specs.Prelude.{ℕ, zero, suc, ◌+◌, ◌-◌, Bool, true, cond, ◌&&◌, List, [], ◌∷◌, length, take, drop, eqb, leb, ltb, Option, Some, None}
 use Rattle.wire.specs.Field.{be}
-use Rattle.tlv.specs.declared.packet.Next.{Next}
-use Rattle.tlv.specs.declared.packet.Next.TheVariants.{Packet, Tail}
-use Rattle.tlv.specs.declared.packet.Walked.{Walked}
-use Rattle.tlv.specs.declared.packet.Walked.TheVariants.{Unmarked, Tail as TailAt}
 
 -- a good first byte of a TLV header: "a header is good only if its first byte is 0x7F" (document 02, item 2)
 unfoldable pub good_first : ℕ → Bool
@@ -54,9 +50,9 @@ unfoldable pub cut : List ℕ → Cut
 cut b = cut_by (length b) b
 
 -- what stands at a place of a slot
-unfoldable pub packet_at : List ℕ → ℕ → Next
-packet_at s at = cond (complete (drop at s)) (Packet (at + total (drop at s))) Tail
+unfoldable pub packet_at : List ℕ → ℕ → Option ℕ
+packet_at s at = cond (complete (drop at s)) (Some (at + total (drop at s))) None
 
 -- where the walk from t comes to
-unfoldable pub walk_of : List ℕ → ℕ → Walked
-walk_of s t = cond (cut (drop t s)).good (TailAt (length s - length (cut (drop t s)).tail)) Unmarked
+unfoldable pub walk_of : List ℕ → ℕ → Option ℕ
+walk_of s t = cond (cut (drop t s)).good (Some (length s - length (cut (drop t s)).tail)) None

@@ -3,9 +3,11 @@ ghost use Rattle.std.specs.Prelude.{◌≡◌, ◌-◌, ◌<◌, ◌++◌, get_o
 ghost use Rattle.tlv.specs.Held.{held_total, continuation_of, end_within, end_beyond};
 
 use crate::note::SlotNote;
+use crate::packet::MAX_PACKET;
+use crate::slot::NONE;
 
-// What becomes of the packet whose bytes are held.
-#[derive(Clone, Copy)]
+// What becomes of the packet whose bytes are held: three cases, each with its name, and so no Result.
+#[derive(Clone, Copy, Debug, PartialEq, Eq)]
 pub enum Continuation {
     // It is dropped, with this note.
     Dropped(SlotNote),
@@ -23,39 +25,24 @@ fn byte_across(held: &[u8], s: &[u8], i: usize) -> u8
         return held[i];
     }
     let j = i - held.len();
-    if j < s.len() {
-        return s[j];
-    }
-    0
-}
-
-fn wide(x: u8) -> usize
-    ensures { (result ≡ x) × (result < 256) }
-{
-    x as usize
+    if j < s.len() { s[j] } else { 0 }
 }
 
 // The total of the held packet; its header is completed from the slot.
 fn total_across(held: &[u8], s: &[u8]) -> usize
     ensures { (result ≡ held_total held.now s.now) × (result < 65540) }
 {
-    4 + (wide(byte_across(held, s, 2)) * 256 + wide(byte_across(held, s, 3)))
+    4 + usize::from(u16::from_be_bytes([byte_across(held, s, 2), byte_across(held, s, 3)]))
 }
 
 // No packet starts in the slot: the held one must reach its end, and `last` must say whether it ends there.
 fn without_top(end: usize, len: usize, last: usize) -> Continuation
     ensures { result ≡ end_beyond end len last }
 {
-    if end < len {
-        return Continuation::Dropped(SlotNote::Misfit);
+    if end == len && last == len {
+        return Continuation::Ends(end);
     }
-    if end == len {
-        if last == len {
-            return Continuation::Ends(end);
-        }
-        return Continuation::Dropped(SlotNote::Misfit);
-    }
-    if last == len {
+    if end <= len || last == len {
         return Continuation::Dropped(SlotNote::Misfit);
     }
     Continuation::GoesOn
@@ -76,18 +63,17 @@ fn before_top(end: usize, t: usize) -> Continuation
 pub fn resume(held: &[u8], s: &[u8], top: u16, last: u16) -> Continuation
     ensures { result ≡ continuation_of held.now s.now top last }
 {
-    let n = held.len();
-    if n == 0 {
-        return before_top(0, top as usize);
+    if held.is_empty() {
+        return before_top(0, usize::from(top));
     }
     let total = total_across(held, s);
-    if crate::packet::MAX_PACKET < total {
+    if MAX_PACKET < total {
         return Continuation::Dropped(SlotNote::TooLong);
     }
-    let end = wire::memory::distance(n, total);
-    if top == crate::slot::NONE {
-        without_top(end, s.len(), last as usize)
+    let end = total.saturating_sub(held.len());
+    if top == NONE {
+        without_top(end, s.len(), usize::from(last))
     } else {
-        before_top(end, top as usize)
+        before_top(end, usize::from(top))
     }
 }

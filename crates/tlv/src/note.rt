@@ -1,26 +1,24 @@
-// The notes on slots, with document 01's numbers.
-ghost use Rattle.std.specs.Prelude.{◌≡◌};
-ghost use Rattle.tlv.specs.Notes.{number_of};
-
-#[derive(Clone, Copy)]
+// The notes on slots, and their numbers.
+#[derive(Clone, Copy, Debug, PartialEq, Eq)]
 pub enum SlotNote {
     // A slot was lost while bytes of a packet, perhaps none, were held.
-    Lost,
+    Lost = 40,
     // The slot is unsound.
-    Unsound,
+    Unsound = 41,
     // The end of what is held, perhaps nothing, is not where the slot's pointers say.
-    Misfit,
+    Misfit = 42,
     // A packet's total is above 16,384.
-    TooLong,
+    TooLong = 43,
 }
 
-pub fn number(note: SlotNote) -> u8
-    ensures { result ≡ number_of note }
-{
-    match note {
-        SlotNote::Lost => 40,
-        SlotNote::Unsound => 41,
-        SlotNote::Misfit => 42,
-        SlotNote::TooLong => 43,
+// The number that a note is known by.
+impl From<SlotNote> for u8 {
+    ghost use Rattle.std.specs.Prelude.{◌≡◌};
+    ghost use Rattle.tlv.specs.Notes.{number_of};
+
+    ghost from_gives = { λ note number. number ≡ number_of note };
+
+    fn from(note: SlotNote) -> u8 {
+        note as u8
     }
 }

@@ -2,7 +2,7 @@
 ghost use Rattle.std.specs.Prelude.{◌≡◌, ◌+◌, ◌≤◌, ◌<◌, length, drop};
 ghost use Rattle.tlv.specs.Packet.{good_first, total, packet_at, walk_of, too_long};
 
-use wire::field;
+use wire::field::Field;
 
 // The longest TLV packet that is kept, its header included.
 pub const MAX_PACKET: usize = 16384;
@@ -14,43 +14,24 @@ fn good_first(b: u8) -> bool
     b == 0x7f
 }
 
-fn wide(x: u16) -> usize
-    ensures { (result ≡ x) × (result < 65536) }
-{
-    x as usize
-}
-
 // The bytes of the packet whose header stands at `at`, the header included.
 pub fn total_at(s: &[u8], at: usize) -> usize
     requires { at + 4 ≤ length s.now }
     ensures { (result ≡ total (drop at s.now)) × (result < 65540) }
 {
-    4 + wide(field::read16(s, at + 2))
+    4 + usize::from(u16::read(s, at + 2))
 }
 
-// What stands at a place of a slot.
-#[derive(Clone, Copy)]
-pub enum Next {
-    // A complete packet, up to this place.
-    Packet(usize),
-    // A packet that is not complete, or nothing.
-    Tail,
-}
-
-pub fn packet_at(s: &[u8], at: usize) -> Next
+// The end of the packet at a place of a slot, if it is complete.
+pub fn packet_at(s: &[u8], at: usize) -> Option<usize>
     ensures { result ≡ packet_at s.now at }
 {
-    if s.len() < at {
-        return Next::Tail;
-    }
-    if s.len() - at < 4 {
-        return Next::Tail;
+    let left = s.len().checked_sub(at)?;
+    if left < 4 {
+        return None;
     }
     let n = total_at(s, at);
-    if s.len() - at < n {
-        return Next::Tail;
-    }
-    Next::Packet(at + n)
+    if n <= left { Some(at + n) } else { None }
 }
 
 // Whether the total of the packet at `at` is known and above what is kept.
@@ -58,38 +39,21 @@ pub fn too_long(s: &[u8], at: usize) -> bool
     requires { at ≤ length s.now }
     ensures { result ≡ too_long (drop at s.now) }
 {
-    if s.len() - at < 4 {
-        return false;
-    }
-    MAX_PACKET < total_at(s, at)
+    4 <= s.len() - at && MAX_PACKET < total_at(s, at)
 }
 
-// Where a walk over packets comes to.
-#[derive(Clone, Copy)]
-pub enum Walked {
-    // A packet whose first byte is not good.
-    Unmarked,
-    // The end of the last complete packet.
-    Tail(usize),
-}
-
-pub fn walk(s: &[u8], t: usize) -> Walked
+// The end of the last complete packet from `t` on; none if a packet's first byte is not good. A step is a packet, not a place.
+pub fn walk(s: &[u8], t: usize) -> Option<usize>
     requires { t ≤ length s.now }
     ensures { result ≡ walk_of s.now t }
 {
     let mut at = t;
     while at < s.len() {
         if !good_first(s[at]) {
-            return Walked::Unmarked;
+            return None;
         }
-        if s.len() - at < 4 {
-            return Walked::Tail(at);
-        }
-        let n = total_at(s, at);
-        if s.len() - at < n {
-            return Walked::Tail(at);
-        }
-        at += n;
+        let Some(end) = packet_at(s, at) else { break };
+        at = end;
     }
-    Walked::Tail(at)
+    Some(at)
 }

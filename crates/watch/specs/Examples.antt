@@ -1,7 +1,6 @@
 -- Examples of the watch list, computed over the definitions: a list that start is given, and words that no start makes.
-use Rattle.std.specs.Prelude.{ℕ, ◌≡◌, List, [], ◌∷◌, replicate}
+use Rattle.std.specs.Prelude.{ℕ, ◌≡◌, List, [], ◌∷◌, replicate, Some, None}
 use Rattle.watch.specs.declared.given.Watch.{Watch}
-use Rattle.watch.specs.declared.given.Found.TheVariants.{At, Nothing}
 use Rattle.watch.specs.Given.{lookup_of}
 use Rattle.watch.specs.Rising.{Entry, rising, search_of}
 use Rattle.watch.specs.Words.{entry_word, rising_in, rising_words}
@@ -21,10 +20,10 @@ Keeps =
 -- the smallest and the largest are found too, each at the place given; ids beside them are not
 abbrev pub Finds : Type 0
 Finds =
-    (search_of (rising given) 0 ≡ At 3) × (search_of (rising given) 3 ≡ At 1) × (search_of (rising given) 7 ≡ At 4)
-    × (search_of (rising given) 9 ≡ At 0) × (search_of (rising given) 65535 ≡ At 2) × (search_of (rising given) 1 ≡ Nothing)
-    × (search_of (rising given) 5 ≡ Nothing) × (search_of (rising given) 8 ≡ Nothing) × (search_of (rising given) 65534 ≡ Nothing)
-    × (lookup_of given 65535 ≡ At 2) × (lookup_of given 5 ≡ Nothing)
+    (search_of (rising given) 0 ≡ Some 3) × (search_of (rising given) 3 ≡ Some 1) × (search_of (rising given) 7 ≡ Some 4)
+    × (search_of (rising given) 9 ≡ Some 0) × (search_of (rising given) 65535 ≡ Some 2) × (search_of (rising given) 1 ≡ None)
+    × (search_of (rising given) 5 ≡ None) × (search_of (rising given) 8 ≡ None) × (search_of (rising given) 65534 ≡ None)
+    × (lookup_of given 65535 ≡ Some 2) × (lookup_of given 5 ≡ None)
 
 abbrev word : ℕ → ℕ → ℕ
 word id place = entry_word (the id place)
@@ -39,8 +38,8 @@ wild = word 3 2 ∷ word 5 0 ∷ word 5 1 ∷ word 65536 0 ∷ replicate 12 0
 
 abbrev pub Wild : Type 0
 Wild =
-    (search_of (rising_in falling 0 2) 9 ≡ At 0) × (search_of (rising_in falling 0 2) 3 ≡ Nothing)
-    × (search_of (rising_in falling 0 2) 10 ≡ Nothing) × (search_of (rising_in wild 0 2) 3 ≡ Nothing)
-    × (search_of (rising_in wild 0 3) 3 ≡ At 2) × (search_of (rising_in wild 0 3) 5 ≡ At 0)
-    × (search_of (rising_in wild 0 4) 65535 ≡ Nothing) × (search_of (rising_in wild 0 99) 3 ≡ At 2)
-    × (search_of (rising_in wild 0 99) 0 ≡ Nothing) × (search_of (rising_in wild 0 0) 3 ≡ Nothing)
+    (search_of (rising_in falling 0 2) 9 ≡ Some 0) × (search_of (rising_in falling 0 2) 3 ≡ None)
+    × (search_of (rising_in falling 0 2) 10 ≡ None) × (search_of (rising_in wild 0 2) 3 ≡ None)
+    × (search_of (rising_in wild 0 3) 3 ≡ Some 2) × (search_of (rising_in wild 0 3) 5 ≡ Some 0)
+    × (search_of (rising_in wild 0 4) 65535 ≡ None) × (search_of (rising_in wild 0 99) 3 ≡ Some 2)
+    × (search_of (rising_in wild 0 99) 0 ≡ None) × (search_of (rising_in wild 0 0) 3 ≡ None)

@@ -1,13 +1,13 @@
 -- Why too_long meets its contract: with four bytes the total is known.
-use lib.ListN.{length-drop}
-use borrow.Author.Tests.{le-leb, lt-leb}
+use Rattle.std.proofs.Common.{arith}
+use Rattle.std.proofs.lemmas.Grind.{common_steps}
 use Rattle.tlv.specs.Packet.{too_long}
 use Rattle.tlv.proofs.packet.too_long.Goals as goal
 
-pub returns-then-s-at-lt4 : goal.returns-then-s-at-lt4
+pub returns-then-s-at-ge4 : goal.returns-then-s-at-ge4
 unfolding too_long
-returns-then-s-at-lt4 c = rw (length-drop, lt-leb _ _ c.if-s-at-lt4.true)
+returns-then-s-at-ge4 c = grind (arith, common_steps)
 
-pub returns : goal.returns
+pub returns-else-s-at-ge4 : goal.returns-else-s-at-ge4
 unfolding too_long
-returns c = rw (length-drop, le-leb _ _ c.if-s-at-lt4.false, c.total_at.ensures.0)
+returns-else-s-at-ge4 c = grind (arith, common_steps)

@@ -1,25 +1,25 @@
 -- Why is_sound meets its contract: the cases of its definition.
-use mathlib.Core.Path.{sym, ◌∙◌}
-use borrow.Author.Tests.{eq-eqb, ne_eqb}
+use Rattle.std.proofs.Common.{arith, sym, ◌∙◌}
+use Rattle.std.proofs.lemmas.Grind.{common_steps}
 use Rattle.tlv.proofs.SlotLaws.{sound-without-top, unsound_outside, unsound_unmarked, sound-tail}
 use Rattle.tlv.proofs.slot.is_sound.Goals as goal
 
 pub returns-then-last-eq-NONE : goal.returns-then-last-eq-NONE
-returns-then-last-eq-NONE c = sym (sound-without-top _ _ _ c.if-top-eq-NONE.true ∙ rw (eq-eqb _ _ c.if-last-eq-NONE.true))
+returns-then-last-eq-NONE c = grind (arith, common_steps, sound-without-top)
 
-pub returns-then-top-eq-NONE : goal.returns-then-top-eq-NONE
-returns-then-top-eq-NONE c = sym (sound-without-top _ _ _ c.if-top-eq-NONE.true ∙ rw (ne_eqb _ _ c.if-last-eq-NONE.false))
+pub returns-else-last-eq-NONE : goal.returns-else-last-eq-NONE
+returns-else-last-eq-NONE c = grind (arith, common_steps, sound-without-top)
 
-pub returns-then-len-t : goal.returns-then-len-t
-returns-then-len-t c = sym (unsound_outside _ _ _ c.if-top-eq-NONE.false c.if-len-t.true)
+pub returns-then-s-t : goal.returns-then-s-t
+returns-then-s-t c = sym (unsound_outside _ _ _ c.if-top-eq-NONE.false (omega arith))
 
-pub returns-in-Unmarked : goal.returns-in-Unmarked
-returns-in-Unmarked c =
-    let d = c in
-    let w = sym c.walk-w.ensures ∙ c.in-Unmarked.is in
-    sym (unsound_unmarked _ _ _ d.if-top-eq-NONE.false d.if-len-t.false w)
+pub returns-in-None : goal.returns-in-None
+returns-in-None c =
+    let w = sym c.walk.ensures ∙ c.in-None.is in
+    sym (unsound_unmarked _ _ _ c.if-top-eq-NONE.false (omega arith) (rw c.from-t.ensures at w))
 
-pub returns-in-Tail : goal.returns-in-Tail
-returns-in-Tail c =
-    rw c.last_pointer.ensures
-    (sym (sound-tail _ _ _ c.if-top-eq-NONE.false c.if-len-t.false _ (sym c.walk-w.ensures ∙ c.in-Tail.is)))
+pub returns-in-Some : goal.returns-in-Some
+returns-in-Some c =
+    let w = sym c.walk.ensures ∙ c.in-Some.is in
+    rw (c.from-in-Some.ensures, c.last_pointer.ensures)
+    (sym (sound-tail _ _ _ c.if-top-eq-NONE.false (omega arith) c.in-Some.end (rw c.from-t.ensures at w)))
