@@ -1,5 +1,5 @@
 -- Laws of specs/Flow.antt.
-use Rattle.std.specs.Prelude.{ℕ, ◌+◌, ◌≤◌, ◌<◌, Bool, true, false, cond, List, ◌≡◌, eqb, ltb}
+use Rattle.std.specs.Prelude.{ℕ, ◌+◌, ◌≤◌, ◌<◌, Bool, true, false, cond, List, ◌≡◌, eqb, ltb, Option, Some, None}
 use Rattle.std.proofs.Math.Path.{refl}
 use native.Mathlib.Omega.{arith}
 use borrow.Author.Tests.{eqb-true, ltb-false, lt-ltb, le-ltb, eq-eqb, ne_eqb}
@@ -8,17 +8,14 @@ use Rattle.wire.specs.Bits.{bits_at}
 use Rattle.wire.specs.Field.{be}
 use Rattle.mmtp.specs.declared.note.PacketNote.TheVariants.{BadFlow}
 use Rattle.mmtp.proofs.Cases.{chose, chose-not}
-use Rattle.mmtp.specs.declared.flow.Flow.TheVariants.{Silent, Noted, Mmtp}
-use Rattle.mmtp.specs.declared.flow.Compressed.{Compressed}
-use Rattle.mmtp.specs.declared.flow.Compressed.TheVariants.{Start, Reserved}
-use Rattle.mmtp.specs.Flow.{compressed_header, behind, compressed_of, flow_of}
+use Rattle.mmtp.specs.Flow.{Silent, Noted, Mmtp, compressed_header, behind, compressed_of, flow_of}
 
 -- each header type's place is one of four
-pub start_bounds : (t n : ℕ) → compressed_header t ≡ Start n → (3 ≤ n) × (n ≤ 45)
+pub start_bounds : (t n : ℕ) → compressed_header t ≡ Some n → (3 ≤ n) × (n ≤ 45)
 unfolding compressed_header
 start_bounds t n e = go (eqb t 0x20) (eqb t 0x21) (eqb t 0x60) (eqb t 0x61) e
   where
-    go : (a b c d : Bool) → cond a (Start 23) (cond b (Start 5) (cond c (Start 45) (cond d (Start 3) Reserved))) ≡ Start n
+    go : (a b c d : Bool) → cond a (Some 23) (cond b (Some 5) (cond c (Some 45) (cond d (Some 3) None))) ≡ Some n
         → (3 ≤ n) × (n ≤ 45)
     go true b c d q = let r : ◌≡◌ {A = ℕ} 23 n = cc in (omega arith, omega arith)
     go false true c d q = let r : ◌≡◌ {A = ℕ} 5 n = cc in (omega arith, omega arith)
@@ -27,7 +24,7 @@ start_bounds t n e = go (eqb t 0x20) (eqb t 0x21) (eqb t 0x60) (eqb t 0x61) e
     go false false false false q = let z : ◌≡◌ {A = ℕ} 0 1 = cc in (omega arith, omega arith)
 
 -- any other header type
-pub reserved : (t : ℕ) → (t ≡ 0x20 → ⊥) → (t ≡ 0x21 → ⊥) → (t ≡ 0x60 → ⊥) → (t ≡ 0x61 → ⊥) → compressed_header t ≡ Reserved
+pub reserved : (t : ℕ) → (t ≡ 0x20 → ⊥) → (t ≡ 0x21 → ⊥) → (t ≡ 0x60 → ⊥) → (t ≡ 0x61 → ⊥) → compressed_header t ≡ None
 unfolding compressed_header
 reserved t a b c d = rw (ne_eqb _ _ a, ne_eqb _ _ b, ne_eqb _ _ c, ne_eqb _ _ d)
 
@@ -38,23 +35,23 @@ silent-not : (n : ℕ) → Silent ≡ Mmtp n → ⊥
 silent-not n e = let z : ◌≡◌ {A = ℕ} 0 1 = cc in omega arith
 
 module _ (p : List ℕ) where
-  pub behind-cut : (n : ℕ) → length p < 4 + n → behind (Start n) p ≡ Noted BadFlow
+  pub behind-cut : (n : ℕ) → length p < 4 + n → behind (Some n) p ≡ Noted BadFlow
   unfolding behind
   behind-cut n h = rw (lt-ltb _ _ h)
 
-  pub behind-whole : (n : ℕ) → 4 + n ≤ length p → behind (Start n) p ≡ Mmtp (4 + n)
+  pub behind-whole : (n : ℕ) → 4 + n ≤ length p → behind (Some n) p ≡ Mmtp (4 + n)
   unfolding behind
   behind-whole n h = rw (le-ltb _ _ h)
 
-  behind-place : (h : Compressed) (n : ℕ) → ((k : ℕ) → h ≡ Start k → 3 ≤ k) → behind h p ≡ Mmtp n → (7 ≤ n) × (n ≤ length p)
+  behind-place : (h : Option ℕ) (n : ℕ) → ((k : ℕ) → h ≡ Some k → 3 ≤ k) → behind h p ≡ Mmtp n → (7 ≤ n) × (n ≤ length p)
   unfolding behind
-  behind-place (Start k) n b e =
+  behind-place (Some k) n b e =
       let a = chose-not (ltb (length p) (4 + k)) (Noted BadFlow) (Mmtp (4 + k)) (Mmtp n) e (malformed_not n) in
       let l : 4 + k ≤ length p = ltb-false _ _ a.0 in
       let s : 4 + k ≡ n = let q : Mmtp (4 + k) ≡ Mmtp n = a.1 in cc in
       let m : 3 ≤ k = b k refl in
       (omega arith, omega arith)
-  behind-place Reserved n b e = absurd (malformed_not n e)
+  behind-place None n b e = absurd (malformed_not n e)
 
 module _ (p : List ℕ) (cid : ℕ) where
   pub under_3-bytes : length p < 7 → compressed_of p cid ≡ Noted BadFlow

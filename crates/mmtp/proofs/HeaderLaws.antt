@@ -1,5 +1,5 @@
 -- Laws of specs/Header.antt.
-use Rattle.std.specs.Prelude.{ℕ, ◌+◌, ◌≤◌, ◌<◌, Bool, true, false, cond, ◌&&◌, List, ◌≡◌, length, eqb}
+use Rattle.std.specs.Prelude.{ℕ, ◌+◌, ◌≤◌, ◌<◌, Bool, true, false, cond, ◌&&◌, List, ◌≡◌, length, eqb, Some, None}
 use Rattle.std.proofs.Math.Bool.{and-false, and-eq-true_iff}
 use Rattle.std.proofs.Common.{sym, ap, arith}
 use borrow.Author.Tests.{leb-true, leb-false, le-leb, lt-leb, eq-eqb, ne_eqb}
@@ -7,8 +7,6 @@ use Rattle.std.proofs.Math.Dec.{leb}
 use Rattle.wire.specs.Bits.{bits_at}
 use Rattle.mmtp.proofs.Cases.{chose, chose-not}
 use Rattle.mmtp.specs.declared.header.Header.{Header}
-use Rattle.mmtp.specs.declared.header.HeaderRead.TheVariants.{Malformed, Good}
-use Rattle.mmtp.specs.declared.header.Start.TheVariants.{At, Short}
 use Rattle.mmtp.specs.Header.{first, plain, fixed_bytes, extension_length, extension_bytes, payload_start, start_of, fields, header_of}
 
 pub plain-good : (x : ℕ) → bits_at 6 2 x ≡ 0 → bits_at 3 2 x ≡ 0 → plain x ≡ true
@@ -39,10 +37,10 @@ fixed_bounds x = go (eqb (bits_at 5 1 x) 1)
     go true = (omega arith, omega arith)
     go false = (omega arith, omega arith)
 
-short-not : (n : ℕ) → Short ≡ At n → ⊥
+short-not : (n : ℕ) → None ≡ Some n → ⊥
 short-not n e = let z : ◌≡◌ {A = ℕ} 0 1 = cc in omega arith
 
-malformed_not : (h : Header) → Malformed ≡ Good h → ⊥
+malformed_not : (h : Header) → None ≡ Some h → ⊥
 malformed_not h e = let z : ◌≡◌ {A = ℕ} 0 1 = cc in omega arith
 
 module _ (m : List ℕ) where
@@ -58,52 +56,56 @@ module _ (m : List ℕ) where
   unfolding payload_start
   start-low = omega (arith, fixed_bounds (first m))
 
-  pub start-whole : payload_start m ≤ length m → start_of m ≡ At (payload_start m)
+  pub start-whole : payload_start m ≤ length m → start_of m ≡ Some (payload_start m)
   unfolding start_of
   start-whole h = rw (le-leb _ _ h)
 
-  pub start-cut : length m < payload_start m → start_of m ≡ Short
+  pub start-cut : length m < payload_start m → start_of m ≡ None
   unfolding start_of
   start-cut h = rw (lt-leb _ _ h)
 
   -- what its answer tells
-  pub start-at : (n : ℕ) → start_of m ≡ At n → (n ≡ payload_start m) × (payload_start m ≤ length m)
+  pub start-at : (n : ℕ) → start_of m ≡ Some n → (n ≡ payload_start m) × (payload_start m ≤ length m)
   unfolding start_of
   start-at n e =
-      let a = chose (leb (payload_start m) (length m)) (At (payload_start m)) Short (At n) e (short-not n) in
-      let q : At (payload_start m) ≡ At n = a.1 in
+      let a = chose (leb (payload_start m) (length m)) (Some (payload_start m)) None (Some n) e (short-not n) in
+      let q : Some (payload_start m) ≡ Some n = a.1 in
       (cc, leb-true _ _ a.0)
 
-  pub start-short : start_of m ≡ Short → length m < payload_start m
+  -- where it finds the start, the packet has the fields
+  pub fields_inside : (n : ℕ) → Some n ≡ start_of m → 12 ≤ length m
+  fields_inside n e = omega (arith, (start-at n (sym e)).1, start-low)
+
+  pub start-short : start_of m ≡ None → length m < payload_start m
   unfolding start_of
   start-short e =
       let n = payload_start m in
-      leb-false _ _ (chose-not (leb n (length m)) (At n) Short Short e (λ q. short-not n (sym q))).0
+      leb-false _ _ (chose-not (leb n (length m)) (Some n) None None e (λ q. short-not n (sym q))).0
 
-  pub header-cut : length m < payload_start m → header_of m ≡ Malformed
+  pub header-cut : length m < payload_start m → header_of m ≡ None
   unfolding header_of
   header-cut h = rw (lt-leb _ _ h)
 
-  pub header-other : plain (first m) ≡ false → header_of m ≡ Malformed
+  pub header-other : plain (first m) ≡ false → header_of m ≡ None
   unfolding header_of
   header-other p = rw (p, and-false)
 
-  pub header-good : payload_start m ≤ length m → plain (first m) ≡ true → header_of m ≡ Good (fields m)
+  pub header-good : payload_start m ≤ length m → plain (first m) ≡ true → header_of m ≡ Some (fields m)
   unfolding header_of
   header-good h p = rw (le-leb _ _ h, p)
 
   -- what a good header tells
-  pub header_is : (h : Header) → header_of m ≡ Good h → (h ≡ fields m) × (payload_start m ≤ length m) × (plain (first m) ≡ true)
+  pub header_is : (h : Header) → header_of m ≡ Some h → (h ≡ fields m) × (payload_start m ≤ length m) × (plain (first m) ≡ true)
   unfolding header_of
   header_is h e =
       let whole = leb (payload_start m) (length m) in
-      let a = chose (whole && plain (first m)) (Good (fields m)) Malformed (Good h) e (malformed_not h) in
-      let q : Good (fields m) ≡ Good h = a.1 in
+      let a = chose (whole && plain (first m)) (Some (fields m)) None (Some h) e (malformed_not h) in
+      let q : Some (fields m) ≡ Some h = a.1 in
       let t = (and-eq-true_iff whole (plain (first m))).0 a.0 in
       (cc, leb-true _ _ t.0, t.1)
 
   -- its payload starts in the packet, past the fields
-  pub start-inside : (h : Header) → header_of m ≡ Good h → (12 ≤ h.start) × (h.start ≤ length m)
+  pub start-inside : (h : Header) → header_of m ≡ Some h → (12 ≤ h.start) × (h.start ≤ length m)
   start-inside h e =
       let a = header_is h e in
       let s : h.start ≡ payload_start m = ap (λ (x : Header). x.start) a.0 in

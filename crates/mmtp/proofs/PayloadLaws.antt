@@ -1,5 +1,5 @@
 -- Laws of specs/Payload.antt.
-use Rattle.std.specs.Prelude.{ℕ, ◌+◌, ◌-◌, ◌/◌, ◌^◌, ◌≤◌, ◌<◌, ◌≡◌, refl, Bool, true, false, cond, List, [], ◌∷◌, length, get_or, drop, eqb}
+use Rattle.std.specs.Prelude.{ℕ, ◌+◌, ◌-◌, ◌/◌, ◌^◌, ◌≤◌, ◌<◌, ◌≡◌, refl, Bool, true, false, cond, List, [], ◌∷◌, length, get_or, drop, eqb, Option, Some, None}
 use Rattle.std.proofs.Common.{sym, ◌∙◌, ap, div-one, arith, length-drop, get_or-drop}
 use Rattle.std.proofs.Math.Bool.{and-eq-true_iff}
 use Rattle.std.proofs.Math.Nat.{add-zero}
@@ -11,10 +11,7 @@ use Rattle.wire.specs.Field.{be}
 use Rattle.wire.proofs.FieldLaws.{be-drop}
 use Rattle.mmtp.specs.declared.payload.Indicator.{Indicator}
 use Rattle.mmtp.specs.declared.payload.Indicator.TheVariants.{Whole, First, Middle, Last}
-use Rattle.mmtp.specs.declared.payload.FragmentType.{FragmentType}
 use Rattle.mmtp.specs.declared.payload.Payload.{Payload}
-use Rattle.mmtp.specs.declared.payload.PayloadRead.{PayloadRead}
-use Rattle.mmtp.specs.declared.payload.PayloadRead.TheVariants.{Malformed, Good}
 use Rattle.mmtp.specs.Unit.{piece_of, single_fits, aggregate, aggregate_fits}
 use Rattle.mmtp.proofs.UnitLaws.{aggregate-fits, single_within}
 use Rattle.mmtp.specs.Payload.{fragment_type_of, flag, mpu_by, mpu_of, signalling_head, signalling_of, parsed_of, counter_fits, aggregation_fits, units_fit, payload_fits, tested, payload_of, pieces_of, PayloadGood}
@@ -29,52 +26,52 @@ flag-low x = ap (λ (y : ℕ). eqb (bit_and y 1) 1) (sym (div-one x)) ∙ flag_s
 
 -- the header of an MPU payload, by its tests
 module _ (m : List ℕ) (at : ℕ) where
-  pub mpu-short : length m - at < 8 → mpu_of m at ≡ Malformed
+  pub mpu-short : length m - at < 8 → mpu_of m at ≡ None
   unfolding mpu_of
   mpu-short h = rw (length-drop, lt-leb _ _ h)
 
-  pub mpu-length : (be 2 m at ≡ length m - at - 2 → ⊥) → 8 ≤ length m - at → mpu_of m at ≡ Malformed
+  pub mpu-length : (be 2 m at ≡ length m - at - 2 → ⊥) → 8 ≤ length m - at → mpu_of m at ≡ None
   unfolding mpu_of
   mpu-length e h = rw (length-drop, le-leb _ _ h, be-drop, add-zero, ne_eqb _ _ e)
 
-  pub mpu-by : 8 ≤ length m - at → be 2 m at ≡ length m - at - 2 → (ft : FragmentType)
+  pub mpu-by : 8 ≤ length m - at → be 2 m at ≡ length m - at - 2 → (ft : Option ℕ)
       → fragment_type_of (bits_at 4 4 (get_or m (at + 2) 0)) (flag 3 (get_or m (at + 2) 0)) ≡ ft → mpu_of m at ≡ mpu_by ft (drop at m) at
   unfolding mpu_of
   mpu-by h e ft f = rw (length-drop, le-leb _ _ h, be-drop, add-zero, eq-eqb _ _ e) (rw (get_or-drop, f))
 
 -- the header of a signalling payload
 module _ (m : List ℕ) (at : ℕ) where
-  pub signalling_short : length m - at < 2 → signalling_of m at ≡ Malformed
+  pub signalling_short : length m - at < 2 → signalling_of m at ≡ None
   unfolding signalling_of
   signalling_short h = rw (length-drop, lt-leb _ _ h)
 
-  pub signalling_by : 2 ≤ length m - at → signalling_of m at ≡ Good (signalling_head (drop at m) at)
+  pub signalling_by : 2 ≤ length m - at → signalling_of m at ≡ Some (signalling_head (drop at m) at)
   unfolding signalling_of
   signalling_by h = rw (length-drop, le-leb _ _ h)
 
 -- the payload, by its tests
 module _ (m : List ℕ) (at type : ℕ) where
-  pub payload_unparsed : parsed_of m at type ≡ Malformed → payload_of m at type ≡ Malformed
+  pub payload_unparsed : parsed_of m at type ≡ None → payload_of m at type ≡ None
   unfolding payload_of tested
   payload_unparsed e = rw e
 
-  module _ (p : Payload) (e : parsed_of m at type ≡ Good p) where
-    pub payload_counter : counter_fits p.indicator p.counter ≡ false → payload_of m at type ≡ Malformed
+  module _ (p : Payload) (e : parsed_of m at type ≡ Some p) where
+    pub payload_counter : counter_fits p.indicator p.counter ≡ false → payload_of m at type ≡ None
     unfolding payload_of tested
     payload_counter c = rw (e, c)
 
     pub payload_aggregation : counter_fits p.indicator p.counter ≡ true
-        → aggregation_fits p.aggregated p.indicator ≡ false → payload_of m at type ≡ Malformed
+        → aggregation_fits p.aggregated p.indicator ≡ false → payload_of m at type ≡ None
     unfolding payload_of tested
     payload_aggregation c a = rw (e, c, a)
 
     pub payload_units : counter_fits p.indicator p.counter ≡ true → aggregation_fits p.aggregated p.indicator ≡ true
-        → units_fit m p ≡ false → payload_of m at type ≡ Malformed
+        → units_fit m p ≡ false → payload_of m at type ≡ None
     unfolding payload_of tested
     payload_units c a u = rw (e, c, a, u)
 
     pub payload_good : counter_fits p.indicator p.counter ≡ true → aggregation_fits p.aggregated p.indicator ≡ true
-        → units_fit m p ≡ true → payload_of m at type ≡ Good p
+        → units_fit m p ≡ true → payload_of m at type ≡ Some p
     unfolding payload_of tested
     payload_good c a u = rw (e, c, a, u)
 
@@ -114,21 +111,21 @@ start-by m p u false e =
     let f = single_within m p.start p.kind (sym (units_single m p e) ∙ u) in
     omega arith
 
-cond-good : (t : Bool) (q p : Payload) → cond t (Good q) Malformed ≡ Good p → (t ≡ true) × (q ≡ p)
+cond-good : (t : Bool) (q p : Payload) → cond t (Some q) None ≡ Some p → (t ≡ true) × (q ≡ p)
 cond-good true q p h = (refl, cc)
 cond-good false q p h = (cc, cc)
 
-good-by : (m : List ℕ) (at type : ℕ) (p : Payload) (r : PayloadRead) → parsed_of m at type ≡ r → tested m r ≡ Good p
+good-by : (m : List ℕ) (at type : ℕ) (p : Payload) (r : Option Payload) → parsed_of m at type ≡ r → tested m r ≡ Some p
     → PayloadGood m at type p
 unfolding tested
-good-by m at type p Malformed e h = let z : ◌≡◌ {A = ℕ} 0 1 = cc in absurd (omega arith)
-good-by m at type p (Good q) e h =
+good-by m at type p None e h = let z : ◌≡◌ {A = ℕ} 0 1 = cc in absurd (omega arith)
+good-by m at type p (Some q) e h =
     let c = cond-good (payload_fits m q) q p h in
     let t : payload_fits m p ≡ true = ap (payload_fits m) (sym c.1) ∙ c.0 in
     let a = (and-eq-true_iff (counter_fits p.indicator p.counter) _).0 t in
     let b = (and-eq-true_iff (aggregation_fits p.aggregated p.indicator) _).0 a.1 in
     record {
-      parsed = e ∙ ap Good c.1;
+      parsed = e ∙ ap Some c.1;
       counter = a.0;
       aggregation = b.0;
       units = b.1;
@@ -136,6 +133,6 @@ good-by m at type p (Good q) e h =
       whole = λ w. aggregated_whole p.indicator (rw w at b.0);
     }
 
-pub payload_read : (m : List ℕ) (at type : ℕ) (p : Payload) → payload_of m at type ≡ Good p → PayloadGood m at type p
+pub payload_read : (m : List ℕ) (at type : ℕ) (p : Payload) → payload_of m at type ≡ Some p → PayloadGood m at type p
 unfolding payload_of
 payload_read m at type p h = good-by m at type p (parsed_of m at type) refl h

@@ -1,6 +1,6 @@
 -- Laws of specs/Unit.antt.
 use Prim.Native.Nat.{ℕ, zero, suc, ◌+◌, ◌-◌, ◌≤◌, ◌<◌}
-use Rattle.std.specs.Prelude.{◌≡◌, Bool, not, eqb, leb}
+use Rattle.std.specs.Prelude.{◌≡◌, Bool, not, eqb, leb, Some, None}
 use Rattle.std.proofs.Math.Path.{refl, ap}
 use Rattle.std.proofs.Common.{sym, ◌∙◌, true≢false, add_assoc, get_or-take}
 use Rattle.std.proofs.Math.Bool.{true, false, cond, and-eq-true_iff}
@@ -84,43 +84,51 @@ unit-fits-end m at kind wide h =
 
 -- the place behind a unit, by the unit's three tests
 module _ (m : List ℕ) (at kind : ℕ) (wide : Bool) where
-  pub behind-short : length m - at < length_bytes wide → place_behind m at kind wide ≡ at
+  pub behind-short : length m - at < length_bytes wide → place_behind m at kind wide ≡ None
   unfolding place_behind unit_fits
   behind-short h = rw (length-drop, lt-leb _ _ h)
 
   pub behind-over : length_bytes wide ≤ length m - at → length m - at - length_bytes wide < unit_length wide (drop at m)
-      → place_behind m at kind wide ≡ at
+      → place_behind m at kind wide ≡ None
   unfolding place_behind unit_fits
   behind-over h k = rw (length-drop, le-leb _ _ h, lt-leb _ _ k)
 
   pub behind-bare : length_bytes wide ≤ length m - at → unit_length wide (drop at m) ≤ length m - at - length_bytes wide
-      → unit_length wide (drop at m) < field_bytes kind → place_behind m at kind wide ≡ at
+      → unit_length wide (drop at m) < field_bytes kind → place_behind m at kind wide ≡ None
   unfolding place_behind unit_fits
   behind-bare h k l = rw (length-drop, le-leb _ _ h, le-leb _ _ k, lt-leb _ _ l)
 
   pub behind-whole : length_bytes wide ≤ length m - at → unit_length wide (drop at m) ≤ length m - at - length_bytes wide
-      → field_bytes kind ≤ unit_length wide (drop at m) → place_behind m at kind wide ≡ unit_end m at wide
+      → field_bytes kind ≤ unit_length wide (drop at m) → place_behind m at kind wide ≡ Some (unit_end m at wide)
   unfolding place_behind unit_fits
   behind-whole h k l = rw (length-drop, le-leb _ _ h, le-leb _ _ k, le-leb _ _ l)
 
-on-by : (t : Bool) (x at : ℕ) → at < cond t x at → (t ≡ true) × (cond t x at ≡ x)
-on-by true x at h = (refl, refl)
-on-by false x at h = absurd (omega arith)
+on-by : (t : Bool) (x n : ℕ) → cond t (Some x) None ≡ Some n → (t ≡ true) × (n ≡ x)
+on-by true x n h = (refl, cc)
+on-by false x n h = (cc, cc)
 
-stays_by : (t : Bool) (x at : ℕ) → (t ≡ true → at < x) → cond t x at ≤ at → t ≡ false
-stays_by true x at f h = let l = f refl in absurd (omega arith)
-stays_by false x at f h = refl
+stays_by : (t : Bool) (x : ℕ) → cond t (Some x) None ≡ None → t ≡ false
+stays_by true x h = cc
+stays_by false x h = refl
 
 -- a reader gets on exactly where a unit fits
 module _ (m : List ℕ) (at kind : ℕ) (wide : Bool) where
-  pub behind-on : at < place_behind m at kind wide
-      → (unit_fits (drop at m) kind wide ≡ true) × (place_behind m at kind wide ≡ unit_end m at wide)
+  pub behind_on : (n : ℕ) → place_behind m at kind wide ≡ Some n
+      → (unit_fits (drop at m) kind wide ≡ true) × (n ≡ unit_end m at wide)
   unfolding place_behind
-  behind-on h = on-by (unit_fits (drop at m) kind wide) _ at h
+  behind_on n h = on-by (unit_fits (drop at m) kind wide) _ n h
 
-  pub behind-stays : place_behind m at kind wide ≤ at → unit_fits (drop at m) kind wide ≡ false
+  -- and the unit has room for its length and its fields
+  pub behind_room : (n : ℕ) → place_behind m at kind wide ≡ Some n → at + length_bytes wide + field_bytes kind ≤ length m
+  behind_room n h =
+      let f = unit-fits (drop at m) kind wide (behind_on n h).0 in
+      let l = length-drop at m in
+      let w = length-bytes_pos wide in
+      omega arith
+
+  pub behind_stays : place_behind m at kind wide ≡ None → unit_fits (drop at m) kind wide ≡ false
   unfolding place_behind
-  behind-stays h = stays_by (unit_fits (drop at m) kind wide) _ at (λ u. (unit-fits-end m at kind wide u).1) h
+  behind_stays h = stays_by (unit_fits (drop at m) kind wide) _ h
 
 fields-by : (timed item : Bool) (n : ℕ) (u : List ℕ) → cond timed 14 (cond item 4 0) ≤ n
     → cond timed (timed_fields (take n u)) (cond item (item_fields (take n u)) no_fields)
@@ -180,19 +188,20 @@ module _ (m : List ℕ) (at kind : ℕ) (wide : Bool) where
   fits-end l = let d = length-drop at m in rw (aggregate-none (drop at m) kind wide (omega arith))
 
   -- the walk of a reader: it gets on in the packet, or stands at the end exactly if the units fill it
-  pub walk_on : at < place_behind m at kind wide → (place_behind m at kind wide ≤ length m)
-      × ((aggregate (drop (place_behind m at kind wide) m) kind wide).fits ≡ (aggregate (drop at m) kind wide).fits)
-  walk_on h =
-      let b = behind-on m at kind wide h in
-      rw b.1 ((unit-fits-end m at kind wide b.0).0, fits_on b.0)
+  pub walk_on : (n : ℕ) → place_behind m at kind wide ≡ Some n
+      → (at < n) × (n ≤ length m) × ((aggregate (drop n m) kind wide).fits ≡ (aggregate (drop at m) kind wide).fits)
+  walk_on n h =
+      let b = behind_on m at kind wide n h in
+      let e = unit-fits-end m at kind wide b.0 in
+      rw b.1 (e.1, e.0, fits_on b.0)
 
   stands_by : (t : Bool) → leb (length m) at ≡ t → unit_fits (drop at m) kind wide ≡ false
       → leb (length m) at ≡ (aggregate (drop at m) kind wide).fits
   stands_by true e u = e ∙ sym (fits-end (leb-true _ _ e))
   stands_by false e u = e ∙ sym (fits_not (leb-false _ _ e) u)
 
-  pub walk_stands : place_behind m at kind wide ≤ at → leb (length m) at ≡ (aggregate (drop at m) kind wide).fits
-  walk_stands h = stands_by (leb (length m) at) refl (behind-stays m at kind wide h)
+  pub walk_stands : place_behind m at kind wide ≡ None → leb (length m) at ≡ (aggregate (drop at m) kind wide).fits
+  walk_stands h = stands_by (leb (length m) at) refl (behind_stays m at kind wide h)
 
 module _ (m : List ℕ) (at kind : ℕ) (wide : Bool) (h : (aggregate (drop at m) kind wide).fits ≡ true) (l : at < length m) where
   next-by : (t : Bool) → unit_fits (drop at m) kind wide ≡ t → Next m at kind wide

@@ -1,25 +1,33 @@
 -- A TLV packet's flow: which types are read, and how the flow is recognised.
-use Rattle.std.specs.Prelude.{ℕ, ◌+◌, cond, List, eqb, ltb}
+use Rattle.std.specs.Prelude.{ℕ, ◌+◌, cond, List, eqb, ltb, Option, Some, None, Result, Ok, Err}
 use Rattle.std.proofs.Math.ListN.{length, get_or}
 use Rattle.wire.specs.Bits.{bits_at}
 use Rattle.wire.specs.Field.{be}
+use Rattle.mmtp.specs.declared.note.PacketNote.{PacketNote}
 use Rattle.mmtp.specs.declared.note.PacketNote.TheVariants.{BadFlow}
 use Rattle.mmtp.specs.Notes.{number_of}
-use Rattle.mmtp.specs.declared.flow.Flow.{Flow}
-use Rattle.mmtp.specs.declared.flow.Flow.TheVariants.{Silent, Noted, Mmtp}
-use Rattle.mmtp.specs.declared.flow.Compressed.{Compressed}
-use Rattle.mmtp.specs.declared.flow.Compressed.TheVariants.{Start, Reserved}
+
+-- what a TLV packet holds: another packet type or another flow; a note; or an MMTP packet of the flow, from this byte to its end
+pub data Flow : Type 0 where
+  Silent : Flow
+  Noted : PacketNote → Flow
+  Mmtp : ℕ → Flow
+
+abbrev pub as_flow : Result (Option ℕ) PacketNote → Flow
+as_flow (Ok None) = Silent
+as_flow (Ok (Some start)) = Mmtp start
+as_flow (Err note) = Noted note
 
 -- "Payload starts at byte 23 for 0x20, 5 for 0x21, 45 for 0x60, 3 for 0x61", counted from the CID
-unfoldable pub compressed_header : ℕ → Compressed
+unfoldable pub compressed_header : ℕ → Option ℕ
 compressed_header t =
-    cond (eqb t 0x20) (Start 23)
-    (cond (eqb t 0x21) (Start 5) (cond (eqb t 0x60) (Start 45) (cond (eqb t 0x61) (Start 3) Reserved)))
+    cond (eqb t 0x20) (Some 23)
+    (cond (eqb t 0x21) (Some 5) (cond (eqb t 0x60) (Some 45) (cond (eqb t 0x61) (Some 3) None)))
 
 -- "another type, or fewer bytes: 50"
-unfoldable pub behind : Compressed → List ℕ → Flow
-behind (Start n) p = cond (ltb (length p) (4 + n)) (Noted BadFlow) (Mmtp (4 + n))
-behind Reserved p = Noted BadFlow
+unfoldable pub behind : Option ℕ → List ℕ → Flow
+behind (Some n) p = cond (ltb (length p) (4 + n)) (Noted BadFlow) (Mmtp (4 + n))
+behind None p = Noted BadFlow
 
 -- type 3, behind the TLV header of 4 bytes: CID of 12 bits, SN of 4, header type of 8
 unfoldable pub compressed_of : List ℕ → ℕ → Flow

@@ -1,13 +1,9 @@
 -- The MMTP header. First byte: version 2 bits, C 1, FEC 2, reserved 1, X 1, RAP 1.
-use Rattle.std.specs.Prelude.{ℕ, ◌+◌, Bool, cond, ◌&&◌, List, length, get_or, eqb}
+use Rattle.std.specs.Prelude.{ℕ, ◌+◌, Bool, cond, ◌&&◌, List, length, get_or, eqb, Option, Some, None}
 use Rattle.std.proofs.Math.Dec.{leb}
 use Rattle.wire.specs.Bits.{bits_at}
 use Rattle.wire.specs.Field.{be}
 use Rattle.mmtp.specs.declared.header.Header.{Header}
-use Rattle.mmtp.specs.declared.header.HeaderRead.{HeaderRead}
-use Rattle.mmtp.specs.declared.header.HeaderRead.TheVariants.{Malformed, Good}
-use Rattle.mmtp.specs.declared.header.Start.{Start}
-use Rattle.mmtp.specs.declared.header.Start.TheVariants.{At, Short}
 
 abbrev pub first : List ℕ → ℕ
 first m = get_or m 0 0
@@ -31,8 +27,8 @@ unfoldable pub payload_start : List ℕ → ℕ
 payload_start m = fixed_bytes (first m) + extension_bytes m
 
 -- a header that is cut short starts its payload past the end
-unfoldable pub start_of : List ℕ → Start
-start_of m = cond (leb (payload_start m) (length m)) (At (payload_start m)) Short
+unfoldable pub start_of : List ℕ → Option ℕ
+start_of m = cond (leb (payload_start m) (length m)) (Some (payload_start m)) None
 
 abbrev pub fields : List ℕ → Header
 fields m =
@@ -44,5 +40,5 @@ fields m =
     }
 
 -- "Version or FEC not 0, or too short: 51"
-unfoldable pub header_of : List ℕ → HeaderRead
-header_of m = cond (leb (payload_start m) (length m) && plain (first m)) (Good (fields m)) Malformed
+unfoldable pub header_of : List ℕ → Option Header
+header_of m = cond (leb (payload_start m) (length m) && plain (first m)) (Some (fields m)) None

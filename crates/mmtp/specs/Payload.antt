@@ -1,14 +1,10 @@
 -- The payload: its header by payload type, and the rules of note 52.
-use Rattle.std.specs.Prelude.{ℕ, ◌+◌, ◌-◌, ◌≤◌, ◌≡◌, Bool, true, false, cond, ◌&&◌, List, [], ◌∷◌, length, get_or, drop, eqb, leb}
+use Rattle.std.specs.Prelude.{ℕ, ◌+◌, ◌-◌, ◌≤◌, ◌≡◌, Bool, true, false, cond, ◌&&◌, List, [], ◌∷◌, length, get_or, drop, eqb, leb, Option, Some, None}
 use Rattle.wire.specs.Bits.{bits_at}
 use Rattle.wire.specs.Field.{be}
 use Rattle.mmtp.specs.declared.payload.Indicator.{Indicator}
 use Rattle.mmtp.specs.declared.payload.Indicator.TheVariants.{Whole, First, Middle, Last}
-use Rattle.mmtp.specs.declared.payload.FragmentType.{FragmentType}
-use Rattle.mmtp.specs.declared.payload.FragmentType.TheVariants.{Kind, Reserved}
 use Rattle.mmtp.specs.declared.payload.Payload.{Payload}
-use Rattle.mmtp.specs.declared.payload.PayloadRead.{PayloadRead}
-use Rattle.mmtp.specs.declared.payload.PayloadRead.TheVariants.{Malformed, Good}
 use Rattle.mmtp.specs.Unit.{Piece, piece_of, single_fits, aggregate, aggregate_fits}
 
 -- FI 00 whole, 01 first, 10 middle, 11 last
@@ -16,18 +12,18 @@ unfoldable pub indicator_of : ℕ → Indicator
 indicator_of n = cond (eqb n 0) Whole (cond (eqb n 1) First (cond (eqb n 2) Middle Last))
 
 -- kinds 0 and 1 for FT 0 and 1; FT 2 is 2 timed, 3 not
-unfoldable pub fragment_type_of : ℕ → Bool → FragmentType
+unfoldable pub fragment_type_of : ℕ → Bool → Option ℕ
 fragment_type_of ft timed =
-    cond (eqb ft 0) (Kind 0) (cond (eqb ft 1) (Kind 1) (cond (eqb ft 2) (Kind (cond timed 2 3)) Reserved))
+    cond (eqb ft 0) (Some 0) (cond (eqb ft 1) (Some 1) (cond (eqb ft 2) (Some (cond timed 2 3)) None))
 
 abbrev pub flag : ℕ → ℕ → Bool
 flag s x = eqb (bits_at s 1 x) 1
 
 -- payload type 0, of the payload p = drop at m: length 16, FT 4, timed 1, FI 2, A 1, counter 8, MPU sequence number 32
-abbrev pub mpu_by : FragmentType → List ℕ → ℕ → PayloadRead
-mpu_by Reserved p at = Malformed
-mpu_by (Kind k) p at =
-    Good (record {
+abbrev pub mpu_by : Option ℕ → List ℕ → ℕ → Option Payload
+mpu_by None p at = None
+mpu_by (Some k) p at =
+    Some (record {
       kind = k;
       indicator = indicator_of (bits_at 1 2 (get_or p 2 0));
       counter = get_or p 3 0;
@@ -37,11 +33,11 @@ mpu_by (Kind k) p at =
       start = at + 8;
     })
 
-unfoldable pub mpu_of : List ℕ → ℕ → PayloadRead
+unfoldable pub mpu_of : List ℕ → ℕ → Option Payload
 mpu_of m at =
     let p = drop at m in
     cond (leb 8 (length p) && eqb (be 2 p 0) (length p - 2))
-    (mpu_by (fragment_type_of (bits_at 4 4 (get_or p 2 0)) (flag 3 (get_or p 2 0))) p at) Malformed
+    (mpu_by (fragment_type_of (bits_at 4 4 (get_or p 2 0)) (flag 3 (get_or p 2 0))) p at) None
 
 -- payload type 2: FI 2, reserved 4, H 1, A 1, counter 8
 abbrev pub signalling_head : List ℕ → ℕ → Payload
@@ -56,11 +52,11 @@ signalling_head p at =
       start = at + 2;
     }
 
-unfoldable pub signalling_of : List ℕ → ℕ → PayloadRead
-signalling_of m at = cond (leb 2 (length (drop at m))) (Good (signalling_head (drop at m) at)) Malformed
+unfoldable pub signalling_of : List ℕ → ℕ → Option Payload
+signalling_of m at = cond (leb 2 (length (drop at m))) (Some (signalling_head (drop at m) at)) None
 
-unfoldable pub parsed_of : List ℕ → ℕ → ℕ → PayloadRead
-parsed_of m at type = cond (eqb type 0) (mpu_of m at) (cond (eqb type 2) (signalling_of m at) Malformed)
+unfoldable pub parsed_of : List ℕ → ℕ → ℕ → Option Payload
+parsed_of m at type = cond (eqb type 0) (mpu_of m at) (cond (eqb type 2) (signalling_of m at) None)
 
 -- the counter's part of 52: a first or middle piece "may carry 0 ..; only the last must be 0" (document 02, item 4)
 unfoldable pub counter_fits : Indicator → ℕ → Bool
@@ -86,12 +82,12 @@ units_fit m p =
 abbrev pub payload_fits : List ℕ → Payload → Bool
 payload_fits m p = counter_fits p.indicator p.counter && (aggregation_fits p.aggregated p.indicator && units_fit m p)
 
-unfoldable pub tested : List ℕ → PayloadRead → PayloadRead
-tested m Malformed = Malformed
-tested m (Good p) = cond (payload_fits m p) (Good p) Malformed
+unfoldable pub tested : List ℕ → Option Payload → Option Payload
+tested m None = None
+tested m (Some p) = cond (payload_fits m p) (Some p) None
 
 -- the payload at `at`, or 52
-unfoldable pub payload_of : List ℕ → ℕ → ℕ → PayloadRead
+unfoldable pub payload_of : List ℕ → ℕ → ℕ → Option Payload
 payload_of m at type = tested m (parsed_of m at type)
 
 -- the data units of a payload, in order
@@ -101,7 +97,7 @@ pieces_of m p =
 
 -- what a payload that is read has
 pub record PayloadGood (m : List ℕ) (at type : ℕ) (p : Payload) : Type 0 where
-  pub parsed : parsed_of m at type ≡ Good p
+  pub parsed : parsed_of m at type ≡ Some p
   pub counter : counter_fits p.indicator p.counter ≡ true
   pub aggregation : aggregation_fits p.aggregated p.indicator ≡ true
   pub units : units_fit m p ≡ true

@@ -1,9 +1,8 @@
 -- The starred payloads of document 01, and small ones of our own, computed.
-use Rattle.std.specs.Prelude.{ℕ, ◌≡◌, Bool, true, false, List, [], ◌∷◌, replicate}
+use Rattle.std.specs.Prelude.{ℕ, ◌≡◌, Bool, true, false, List, [], ◌∷◌, replicate, Some}
 use Rattle.mmtp.specs.declared.payload.Indicator.{Indicator}
 use Rattle.mmtp.specs.declared.payload.Indicator.TheVariants.{Whole, First, Middle}
 use Rattle.mmtp.specs.declared.payload.Payload.{Payload}
-use Rattle.mmtp.specs.declared.payload.PayloadRead.TheVariants.{Good}
 use Rattle.mmtp.specs.Unit.{Piece, no_fields}
 use Rattle.mmtp.specs.Unit.{aggregate}
 use Rattle.mmtp.specs.Payload.{payload_of, pieces_of}
@@ -23,7 +22,7 @@ abbrev pub PayloadSpecimens : Type 0
 PayloadSpecimens =
     -- "MPU byte 0x2A is kind 2, FI 01", here with counter 1 and 14 bytes of fields
     (payload_of (mpu_bytes 20 0x2A 1 (replicate 14 0)) 0 0
-    ≡ Good (record { kind = 2; indicator = First; counter = 1; mpu = 9; aggregated = false; wide = false; start = 8 }))
+    ≡ Some (record { kind = 2; indicator = First; counter = 1; mpu = 9; aggregated = false; wide = false; start = 8 }))
     -- "0x2B: 52", though its one unit is whole
     × (note 0 (mpu_bytes 22 0x2B 1 (0 ∷ 14 ∷ replicate 14 0)) ≡ 52)
 
@@ -37,10 +36,10 @@ message b = record { fields = no_fields; bytes = b }
 abbrev pub Examples : Type 0
 Examples =
     -- an empty signalling unit is read
-    (payload_of (0 ∷ 0 ∷ []) 0 2 ≡ Good (signalled Whole false))
+    (payload_of (0 ∷ 0 ∷ []) 0 2 ≡ Some (signalled Whole false))
     × (pieces_of (0 ∷ 0 ∷ []) (signalled Whole false) ≡ message [] ∷ [])
     -- H without A is read, and the unit has no length before it
-    × (payload_of (2 ∷ 0 ∷ 7 ∷ []) 0 2 ≡ Good (signalled Whole true))
+    × (payload_of (2 ∷ 0 ∷ 7 ∷ []) 0 2 ≡ Some (signalled Whole true))
     × (pieces_of (2 ∷ 0 ∷ 7 ∷ []) (signalled Whole true) ≡ message (7 ∷ []) ∷ [])
     -- two aggregated signalling units, the second empty
     × (aggregate (0 ∷ 1 ∷ 7 ∷ 0 ∷ 0 ∷ []) 4 false ≡ record { pieces = message (7 ∷ []) ∷ message [] ∷ []; fits = true })
@@ -65,7 +64,7 @@ Examples =
     -- with H the length of an aggregated unit has 32 bits
     × (aggregate (0 ∷ 0 ∷ 0 ∷ 1 ∷ 7 ∷ []) 4 true ≡ record { pieces = message (7 ∷ []) ∷ []; fits = true })
     -- FI 01 and FI 10 with counter 0 are read; FI 11 with counter 1 is not, nor with 255
-    × (payload_of (0x40 ∷ 0 ∷ []) 0 2 ≡ Good (signalled First false))
-    × (payload_of (0x80 ∷ 0 ∷ []) 0 2 ≡ Good (signalled Middle false))
+    × (payload_of (0x40 ∷ 0 ∷ []) 0 2 ≡ Some (signalled First false))
+    × (payload_of (0x80 ∷ 0 ∷ []) 0 2 ≡ Some (signalled Middle false))
     × (note 2 (0xC0 ∷ 1 ∷ []) ≡ 52)
     × (note 2 (0xC0 ∷ 255 ∷ []) ≡ 52)

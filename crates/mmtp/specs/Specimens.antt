@@ -1,15 +1,11 @@
 -- Document 01's starred rows on MMTP headers, and examples of the order of the tests.
-use Rattle.std.specs.Prelude.{ℕ, List, [], ◌∷◌, ◌++◌, ◌≡◌, replicate}
-use Rattle.mmtp.specs.declared.flow.Flow.TheVariants.{Silent, Mmtp}
-use Rattle.mmtp.specs.declared.header.HeaderRead.TheVariants.{Good}
-use Rattle.mmtp.specs.declared.packet.Reading.TheVariants.{Silent as Unwatched, Noted}
+use Rattle.std.specs.Prelude.{ℕ, List, [], ◌∷◌, ◌++◌, ◌≡◌, replicate, Option, Some}
+use Rattle.mmtp.specs.Flow.{Silent, Mmtp, flow_of}
+use Rattle.mmtp.specs.Packet.{Silent as Unwatched, Noted, reading_of, note_of}
 use Rattle.mmtp.specs.declared.note.PacketNote.TheVariants.{BadPayload}
-use Rattle.watch.specs.declared.given.Found.{Found}
-use Rattle.mmtp.specs.Flow.{flow_of}
 use Rattle.mmtp.specs.Flow as flow
 use Rattle.mmtp.specs.Header.{header_of}
 use Rattle.watch.specs.Given.{lookup_of}
-use Rattle.mmtp.specs.Packet.{reading_of, note_of}
 
 -- a signalling packet with the first byte x: payload type 2, packet_id 0x1234, timestamp 0x01020304, psn 7, then `rest`
 abbrev pub packet : ℕ → List ℕ → List ℕ
@@ -24,14 +20,14 @@ abbrev pub message : List ℕ
 message = 0x00 ∷ 0x00 ∷ 0xAA ∷ 0xBB ∷ []
 
 -- the search where this id alone is watched
-abbrev pub watching : ℕ → ℕ → Found
+abbrev pub watching : ℕ → ℕ → Option ℕ
 watching id = lookup_of (record { ids = id ∷ []; n = 1 })
 
 abbrev pub HeaderSpecimens : Type 0
 HeaderSpecimens =
     -- "MMTP 0x22, extension length 4: payload at 24."
     (header_of (packet 0x22 extended)
-    ≡ Good (record { payload_type = 2; packet_id = 0x1234; psn = record { 0 = 7 }; start = 24 }))
+    ≡ Some (record { payload_type = 2; packet_id = 0x1234; psn = record { 0 = 7 }; start = 24 }))
     -- "0x40: 51."
     × (note_of (reading_of (packet 0x40 message) (watching 0x1234)) ≡ 51)
 

@@ -2,10 +2,10 @@
 ghost use Rattle.std.specs.Prelude.{◌≡◌};
 ghost use Rattle.mmtp.specs.Header.{fixed_bytes, start_of, header_of};
 
-use wire::field;
+use wire::field::Field;
 
 // A packet sequence number, counted per packet_id; the MPU sequence number beside it is a plain number.
-#[derive(Clone, Copy)]
+#[derive(Clone, Copy, PartialEq, Eq, Default)]
 pub struct Psn(pub u32);
 
 #[derive(Clone, Copy)]
@@ -17,70 +17,44 @@ pub struct Header {
     pub start: usize,
 }
 
-#[derive(Clone, Copy)]
-pub enum HeaderRead {
-    Malformed,
-    Good(Header),
-}
-
-// Where the payload starts.
-#[derive(Clone, Copy)]
-pub enum Start {
-    At(usize),
-    // The header is cut short.
-    Short,
-}
-
 // The bytes before an extension: 12, and with flag C a counter of 4.
+#[tactic(auto, unfolding(crate::specs::Header::fixed_bytes))]
 fn fixed_bytes(first: u8) -> usize
     ensures { result ≡ fixed_bytes first }
 {
     if first >> 5 & 1 == 1 { 16 } else { 12 }
 }
 
-fn start_of(m: &[u8]) -> Start
+// Where the payload starts; none where the header is cut short.
+#[tactic(auto, using(crate::proofs::HeaderLaws::fixed_bounds), unfolding(crate::specs::Header::start_of, crate::specs::Header::payload_start, crate::specs::Header::extension_bytes, crate::specs::Header::extension_length))]
+fn start_of(m: &[u8]) -> Option<usize>
     ensures { result ≡ start_of m.now }
 {
-    let len = m.len();
-    if len < 12 {
-        return Start::Short;
-    }
-    let first = m[0];
-    let fixed = fixed_bytes(first);
-    if first >> 1 & 1 != 1 {
-        if len < fixed {
-            return Start::Short;
+    let first = *m.first()?;
+    let mut start = fixed_bytes(first);
+    // Flag X: an extension of 2 bytes of type, 2 of length, and that many.
+    if first >> 1 & 1 == 1 {
+        if m.len() < start + 4 {
+            return None;
         }
-        return Start::At(fixed);
+        start += 4 + usize::from(u16::read(m, start + 2));
     }
-    if len < fixed + 4 {
-        return Start::Short;
-    }
-    let start = fixed + 4 + field::read16(m, fixed + 2) as usize;
-    if len < start {
-        return Start::Short;
-    }
-    Start::At(start)
+    if start <= m.len() { Some(start) } else { None }
 }
 
-pub fn read(m: &[u8]) -> HeaderRead
+#[tactic(auto, using(crate::proofs::HeaderLaws::fields_inside), unfolding(crate::specs::Header::header_of, crate::specs::Header::start_of, crate::specs::Header::plain))]
+pub fn read(m: &[u8]) -> Option<Header>
     ensures { result ≡ header_of m.now }
 {
-    let at = start_of(m);
-    let Start::At(start) = at else {
-        return HeaderRead::Malformed;
-    };
+    let start = start_of(m)?;
     let first = m[0];
-    if first >> 6 & 3 != 0 {
-        return HeaderRead::Malformed;
+    if first >> 6 & 3 != 0 || first >> 3 & 3 != 0 {
+        return None;
     }
-    if first >> 3 & 3 != 0 {
-        return HeaderRead::Malformed;
-    }
-    HeaderRead::Good(Header {
+    Some(Header {
         payload_type: m[1] & 63,
-        packet_id: field::read16(m, 2),
-        psn: Psn(field::read32(m, 8)),
+        packet_id: u16::read(m, 2),
+        psn: Psn(u32::read(m, 8)),
         start,
     })
 }

@@ -2,12 +2,11 @@
 ghost use Rattle.std.specs.Prelude.{◌≡◌, ◌+◌, ◌≤◌, length};
 ghost use Rattle.watch.specs.Rising.{search_of};
 ghost use Rattle.watch.specs.Words.{rising_in};
-ghost use Rattle.mmtp.specs.Packet.{reading_of};
+ghost use Rattle.mmtp.specs.Packet.{as_reading, reading_of};
 
-use crate::header::{HeaderRead, Psn};
-use crate::note::PacketNote;
-use crate::payload::{Payload, PayloadRead};
-use watch::given::Found;
+use crate::header::Psn;
+use crate::note::{Noted, PacketNote};
+use crate::payload::Payload;
 
 // A packet of a watched packet_id.
 #[derive(Clone, Copy)]
@@ -19,38 +18,26 @@ pub struct Packet {
     pub payload: Payload,
 }
 
-#[derive(Clone, Copy)]
-pub enum Reading {
-    // Not watched.
-    Silent,
-    // A note and its packet_id; 0 where it has none.
-    Noted(PacketNote, u16),
-    Good(Packet),
-}
-
-// The packet `m`, by the watch list of `n` ids whose words start at `i`.
-pub fn read(m: &[u8], t: &[u64], i: usize, n: u64) -> Reading
+// The packet `m`, by the watch list of `n` ids whose words start at `i`; none where its packet_id is not watched.
+#[tactic(auto, unfolding(crate::specs::Packet::reading_of, crate::specs::Packet::head_read, crate::specs::Packet::looked_up, crate::specs::Packet::body_read))]
+pub fn read(m: &[u8], t: &[u64], i: usize, n: u64) -> Result<Option<Packet>, Noted>
     requires { i + 16 ≤ length t.now }
-    ensures { result ≡ reading_of m.now (search_of (rising_in t.now i n)) }
+    ensures { as_reading result ≡ reading_of m.now (search_of (rising_in t.now i n)) }
 {
-    let heading = crate::header::read(m);
-    let HeaderRead::Good(h) = heading else {
-        return Reading::Noted(PacketNote::BadHeader, 0);
+    let header = crate::header::read(m).ok_or(PacketNote::BadHeader)?;
+    let packet_id = header.packet_id;
+    let Some(place) = watch::rising::search(t, i, n, packet_id) else {
+        return Ok(None);
     };
-    let packet_id = h.packet_id;
-    let found = watch::rising::search(t, i, n, packet_id);
-    let Found::At(place) = found else {
-        return Reading::Silent;
+    let bad_payload = Noted {
+        note: PacketNote::BadPayload,
+        packet_id,
     };
-    let body = crate::payload::read(m, h.start, h.payload_type);
-    let PayloadRead::Good(payload) = body else {
-        return Reading::Noted(PacketNote::BadPayload, packet_id);
-    };
-    let psn = h.psn;
-    Reading::Good(Packet {
+    let payload = crate::payload::read(m, header.start, header.payload_type).ok_or(bad_payload)?;
+    Ok(Some(Packet {
         place,
         packet_id,
-        psn,
+        psn: header.psn,
         payload,
-    })
+    }))
 }

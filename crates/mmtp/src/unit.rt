@@ -1,13 +1,12 @@
 // Data units: the fields that each begins with, and aggregated units one by one.
-ghost use Rattle.std.specs.Prelude.{◌≡◌, ◌+◌, ◌≤◌, ◌<◌, length, drop};
-ghost use Rattle.wire.specs.Field.{be};
-ghost use Rattle.mmtp.specs.Unit.{field_bytes, fields_of, length_bytes, place_behind, unit_at, single_fits, single_at, aggregate_fits};
+ghost use Rattle.std.specs.Prelude.{◌≡◌, ◌≤◌, length, drop};
+ghost use Rattle.mmtp.specs.Unit.{field_bytes, fields_of, length_bytes, unit_length, place_behind, unit_at, single_fits, single_at, aggregate_fits};
 
 use crate::reader;
-use wire::field;
+use wire::field::Field;
 
 // The fields of a data unit; 0 where its kind has none.
-#[derive(Clone, Copy)]
+#[derive(Clone, Copy, Default)]
 pub struct Fields {
     // Kind 2: the movie fragment, and the sample with the place of the data unit in it.
     pub movie_fragment: u32,
@@ -27,7 +26,7 @@ pub struct DataUnit {
     pub end: usize,
 }
 
-// What stands at a place of an aggregate.
+// What stands at a place of a packet: three cases, each with its name, and so no Option.
 #[derive(Clone, Copy)]
 pub enum Step {
     Unit(DataUnit),
@@ -36,133 +35,124 @@ pub enum Step {
 }
 
 // The bytes of the fields that each data unit of a kind begins with.
+#[tactic(auto, unfolding(crate::specs::Unit::field_bytes))]
 pub fn field_bytes(kind: u8) -> usize
     ensures { result ≡ field_bytes kind }
 {
     match kind {
         2 => 14,
         3 => 4,
-        0..=1 => 0,
-        4..=0xff => 0,
+        _ => 0,
     }
 }
 
-fn fields_at(m: &[u8], at: usize, kind: u8) -> Fields
-    requires { at + field_bytes kind ≤ length m.now }
-    ensures { result ≡ fields_of kind (drop at m.now) }
+// The fields that the data unit `u` begins with.
+#[tactic(auto, unfolding(crate::specs::Unit::fields_of, crate::specs::Unit::field_bytes))]
+fn fields_of(kind: u8, u: &[u8]) -> Fields
+    requires { field_bytes kind ≤ length u.now }
+    ensures { result ≡ fields_of kind u.now }
 {
-    let none = Fields {
-        movie_fragment: 0,
-        sample: 0,
-        offset: 0,
-        priority: 0,
-        dependency: 0,
-        item: 0,
-    };
     match kind {
         2 => Fields {
-            movie_fragment: field::read32(m, at),
-            sample: field::read32(m, at + 4),
-            offset: field::read32(m, at + 8),
-            priority: m[at + 12],
-            dependency: m[at + 13],
-            item: 0,
+            movie_fragment: u32::read(u, 0),
+            sample: u32::read(u, 4),
+            offset: u32::read(u, 8),
+            priority: u[12],
+            dependency: u[13],
+            ..Fields::default()
         },
         3 => Fields {
-            item: field::read32(m, at),
-            ..none
+            item: u32::read(u, 0),
+            ..Fields::default()
         },
-        0..=1 => none,
-        4..=0xff => none,
+        _ => Fields::default(),
     }
 }
 
 // The bytes of the length before each aggregated unit.
+#[tactic(auto, unfolding(crate::specs::Unit::length_bytes))]
 fn length_bytes(wide: bool) -> usize
     ensures { result ≡ length_bytes wide }
 {
     if wide { 4 } else { 2 }
 }
 
-fn length_at(m: &[u8], at: usize, wide: bool) -> usize
-    requires { at + length_bytes wide ≤ length m.now }
-    ensures { (result ≡ be (length_bytes wide) (drop at m.now) 0) × (result < 4294967296) }
+// The length that begins `b`, of the aggregated unit behind it.
+#[tactic(auto, unfolding(crate::specs::Unit::length_bytes))]
+fn unit_length(b: &[u8], wide: bool) -> usize
+    requires { length_bytes wide ≤ length b.now }
+    ensures { result ≡ unit_length wide b.now }
 {
     if wide {
-        field::read32(m, at) as usize
+        u32::read(b, 0) as usize
     } else {
-        field::read16(m, at) as usize
+        usize::from(u16::read(b, 0))
     }
 }
 
-// Where the aggregated unit at `at` ends, if it is whole and has its fields; else `at`: the work of `reader::moved`.
-pub fn unit_end(m: &[u8], at: usize, kind: u8, wide: bool) -> usize
+// Where the aggregated unit at `at` ends, if it is whole and has its fields: the work of `reader::moved`.
+#[tactic(auto, unfolding(crate::specs::Unit::place_behind, crate::specs::Unit::unit_fits, crate::specs::Unit::length_bytes))]
+pub fn unit_end(m: &[u8], at: usize, kind: u8, wide: bool) -> Option<usize>
     ensures { result ≡ place_behind m.now at kind wide }
 {
-    if m.len() < at {
-        return at;
-    }
-    let left = m.len() - at;
+    let b = m.get(at..)?;
     let w = length_bytes(wide);
-    if left < w {
-        return at;
+    if b.len() < w {
+        return None;
     }
-    let n = length_at(m, at, wide);
-    if left - w < n {
-        return at;
+    let n = unit_length(b, wide);
+    if b.len() - w < n || n < field_bytes(kind) {
+        return None;
     }
-    if n < field_bytes(kind) {
-        return at;
-    }
-    at + w + n
+    Some(at + w + n)
 }
 
 // The aggregated unit at `at`.
+#[tactic(auto, using(crate::proofs::UnitLaws::behind_on, crate::proofs::UnitLaws::behind_room, crate::proofs::UnitLaws::behind_stays), unfolding(crate::specs::Unit::unit_at, crate::specs::Unit::data_unit))]
 pub fn unit_at(m: &[u8], at: usize, kind: u8, wide: bool) -> Step
     ensures { result ≡ unit_at m.now at kind wide }
 {
     if m.len() <= at {
         return Step::End;
     }
-    let end = reader::place_behind(m, at, kind, wide);
-    if end <= at {
+    let Some(end) = reader::place_behind(m, at, kind, wide) else {
         return Step::Malformed;
-    }
+    };
     let from = at + length_bytes(wide);
-    let fields = fields_at(m, from, kind);
-    let start = from + field_bytes(kind);
-    Step::Unit(DataUnit { fields, start, end })
+    Step::Unit(DataUnit {
+        fields: fields_of(kind, &m[from..]),
+        start: from + field_bytes(kind),
+        end,
+    })
 }
 
 // Whether the bytes from `at` have the fields of a data unit that is not aggregated.
+#[tactic(auto, unfolding(crate::specs::Unit::single_fits))]
 pub fn single_fits(m: &[u8], at: usize, kind: u8) -> bool
     ensures { result ≡ single_fits m.now at kind }
 {
-    if m.len() < at {
-        return false;
-    }
-    field_bytes(kind) <= m.len() - at
+    at <= m.len() && field_bytes(kind) <= m.len() - at
 }
 
 // The data unit at `at` that is not aggregated: the rest of the packet.
+#[tactic(auto, using(crate::proofs::UnitLaws::single_within), unfolding(crate::specs::Unit::single_at, crate::specs::Unit::single_unit))]
 pub fn single_at(m: &[u8], at: usize, kind: u8) -> Step
     ensures { result ≡ single_at m.now at kind }
 {
     if !single_fits(m, at, kind) {
         return Step::Malformed;
     }
-    let fields = fields_at(m, at, kind);
-    let start = at + field_bytes(kind);
-    let end = m.len();
-    Step::Unit(DataUnit { fields, start, end })
+    Step::Unit(DataUnit {
+        fields: fields_of(kind, &m[at..]),
+        start: at + field_bytes(kind),
+        end: m.len(),
+    })
 }
 
 // Whether the bytes from `start` are aggregated units, one or more, and nothing else.
+#[tactic(auto, unfolding(crate::specs::Unit::aggregate_fits))]
 pub fn aggregate_fits(m: &[u8], start: usize, kind: u8, wide: bool) -> bool
     ensures { result ≡ aggregate_fits (drop start m.now) kind wide }
 {
-    if m.len() <= start {
-        return false;
-    }
-    reader::walks(m, start, kind, wide)
+    start < m.len() && reader::walks(m, start, kind, wide)
 }
