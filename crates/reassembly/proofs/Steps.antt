@@ -6,7 +6,7 @@ use Rattle.reassembly.specs.declared.config.Rules.{Rules}
 use Rattle.reassembly.specs.declared.channel.Phase.{Phase}
 use Rattle.reassembly.specs.declared.channel.Phase.TheVariants.{Unheard, Waiting, Idle, Open}
 use Rattle.reassembly.specs.declared.channel.OpenUnit.{OpenUnit}
-use Rattle.reassembly.specs.declared.join.Joined.{Joined}
+use Rattle.reassembly.specs.Joined.{Joined}
 use Rattle.reassembly.specs.Unit.{agrees}
 use Rattle.reassembly.specs.Channel.{gap}
 use Rattle.reassembly.specs.Join.{interrupted, longer, noted, notes_of}

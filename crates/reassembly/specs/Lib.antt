@@ -2,6 +2,7 @@
 pub mod Notes
 pub mod Unit
 pub mod Channel
+pub mod Joined
 pub mod Join
 pub mod Run
 pub mod Sent

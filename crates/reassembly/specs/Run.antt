@@ -9,7 +9,7 @@ use Rattle.reassembly.specs.declared.channel.Channel.{Channel}
 use Rattle.reassembly.specs.declared.join.Piece.{Piece}
 use Rattle.reassembly.specs.declared.join.Action.{Action}
 use Rattle.reassembly.specs.declared.join.Action.TheVariants.{Nothing, Whole as GiveWhole, Store, Complete}
-use Rattle.reassembly.specs.declared.join.Joined.{Joined}
+use Rattle.reassembly.specs.Joined.{Joined}
 use Rattle.reassembly.specs.Channel.{unheard}
 use Rattle.reassembly.specs.Join.{join_of, notes_of}
 

@@ -1,13 +1,13 @@
 // The state of one watched packet_id, and its packet sequence numbers.
 ghost use Rattle.std.specs.Prelude.{◌≡◌};
-ghost use Rattle.reassembly.specs.Channel.{next_psn, heard, gap, unheard};
+ghost use Rattle.reassembly.specs.Channel.{next_psn, gap, unheard};
 
 use crate::unit::Unit;
 use mmtp::header::Psn;
-use mmtp::unit::Fields;
 
-#[derive(Clone, Copy)]
+#[derive(Clone, Copy, PartialEq, Eq, Default)]
 pub enum Phase {
+    #[default]
     Unheard,
     Waiting,
     Idle,
@@ -15,7 +15,7 @@ pub enum Phase {
 }
 
 // An open unit: what it carries, its last piece's counter, and how many bytes it has.
-#[derive(Clone, Copy)]
+#[derive(Clone, Copy, Default)]
 pub struct OpenUnit {
     pub unit: Unit,
     pub counter: u8,
@@ -23,7 +23,7 @@ pub struct OpenUnit {
 }
 
 // `last` counts where the packet_id was heard, `current` where the phase is Open.
-#[derive(Clone, Copy)]
+#[derive(Clone, Copy, Default)]
 pub struct Channel {
     pub phase: Phase,
     pub last: Psn,
@@ -31,61 +31,25 @@ pub struct Channel {
 }
 
 // A packet_id of which nothing was heard.
+#[tactic(auto, unfolding(crate::specs::Channel::unheard))]
 pub fn fresh() -> Channel
     ensures { result ≡ unheard }
 {
-    let fields = Fields {
-        movie_fragment: 0,
-        sample: 0,
-        offset: 0,
-        priority: 0,
-        dependency: 0,
-        item: 0,
-    };
-    let unit = Unit {
-        packet_id: 0,
-        kind: 0,
-        psn: Psn(0),
-        mpu: 0,
-        fields,
-    };
-    let current = OpenUnit {
-        unit,
-        counter: 0,
-        len: 0,
-    };
-    Channel {
-        phase: Phase::Unheard,
-        last: Psn(0),
-        current,
-    }
+    Channel::default()
 }
 
 // The psn that follows.
+#[tactic(auto, unfolding(crate::specs::Channel::next_psn))]
 fn next_psn(p: Psn) -> Psn
     ensures { result ≡ next_psn p }
 {
-    Psn(std::num::wrapping_add_u32(p.0, 1))
-}
-
-// Any phase but Unheard.
-fn is_heard(phase: Phase) -> bool
-    ensures { result ≡ heard phase }
-{
-    match phase {
-        Phase::Unheard => false,
-        Phase::Waiting => true,
-        Phase::Idle => true,
-        Phase::Open => true,
-    }
+    Psn(p.0.wrapping_add(1))
 }
 
 // Whether packets are missing between the last one heard and this one.
+#[tactic(auto, unfolding(crate::specs::Channel::heard, crate::specs::Channel::gap))]
 pub fn is_gap(ch: Channel, psn: Psn) -> bool
     ensures { result ≡ gap ch psn }
 {
-    let phase = ch.phase;
-    let last = ch.last;
-    let next = next_psn(last);
-    is_heard(phase) && psn.0 != next.0
+    ch.phase != Phase::Unheard && psn != next_psn(ch.last)
 }

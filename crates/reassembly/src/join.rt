@@ -1,12 +1,14 @@
 // One step of reassembly: a packet's piece comes to the state of its packet_id.
 ghost use Rattle.std.specs.Prelude.{◌≡◌, ◌+◌, ◌<◌};
+ghost use Rattle.reassembly.specs.declared.channel.Phase.TheVariants.{Waiting};
+ghost use Rattle.reassembly.specs.Joined.{as_number, as_joined};
 ghost use Rattle.reassembly.specs.Join.{interrupted, kept, given, begun, counter_follows, grown, extended, followed};
 ghost use Rattle.reassembly.specs.Join.{acted, heard_at, join_of};
 
 use crate::channel::{Channel, OpenUnit, Phase, is_gap};
 use crate::config::Rules;
-use crate::note::{JoinNote, number};
-use crate::unit::Unit;
+use crate::note::JoinNote;
+use crate::unit::{Unit, agree};
 use mmtp::header::Psn;
 use mmtp::payload::Indicator;
 
@@ -34,32 +36,34 @@ pub enum Action {
 #[derive(Clone, Copy)]
 pub struct Joined {
     pub channel: Channel,
-    // The number of a note but the last; 0 for none.
-    pub note: u8,
+    // A note but the last.
+    pub note: Option<JoinNote>,
     // The bytes are above R: this note comes after the other.
     pub over: bool,
     pub action: Action,
 }
 
-// The note where an open unit is dropped; 0 for none.
-fn interruption(phase: Phase) -> u8
-    ensures { result ≡ interrupted phase }
+// The note where an open unit is dropped.
+#[tactic(auto, unfolding(crate::specs::Join::interrupted))]
+fn interruption(phase: Phase) -> Option<JoinNote>
+    ensures { as_number result ≡ interrupted phase }
 {
-    match phase {
-        Phase::Unheard => 0,
-        Phase::Waiting => 0,
-        Phase::Idle => 0,
-        Phase::Open => number(JoinNote::Interrupted),
+    if phase == Phase::Open {
+        Some(JoinNote::Interrupted)
+    } else {
+        None
     }
 }
 
-// The channel in another phase, with a note and nothing to be done.
-fn keep(ch: Channel, phase: Phase, note: u8, over: bool) -> Joined
-    ensures { result ≡ kept ch phase note over }
+// The channel waiting, with a note and nothing to be done.
+fn keep(ch: Channel, note: Option<JoinNote>, over: bool) -> Joined
+    ensures { as_joined result ≡ kept ch Waiting (as_number note) over }
 {
-    let channel = Channel { phase, ..ch };
     Joined {
-        channel,
+        channel: Channel {
+            phase: Phase::Waiting,
+            ..ch
+        },
         note,
         over,
         action: Action::Nothing,
@@ -67,15 +71,14 @@ fn keep(ch: Channel, phase: Phase, note: u8, over: bool) -> Joined
 }
 
 // FI 00: the packet's data units are given.
-fn give(ch: Channel, note: u8) -> Joined
-    ensures { result ≡ given ch note }
+fn give(ch: Channel, note: Option<JoinNote>) -> Joined
+    ensures { as_joined result ≡ given ch (as_number note) }
 {
-    let channel = Channel {
-        phase: Phase::Idle,
-        ..ch
-    };
     Joined {
-        channel,
+        channel: Channel {
+            phase: Phase::Idle,
+            ..ch
+        },
         note,
         over: false,
         action: Action::Whole,
@@ -83,26 +86,24 @@ fn give(ch: Channel, note: u8) -> Joined
 }
 
 // FI 01: a unit is opened.
-fn begin(ch: Channel, p: Piece, rules: Rules, note: u8) -> Joined
-    ensures { result ≡ begun ch p rules note }
+#[tactic(auto, unfolding(crate::specs::Join::begun))]
+fn begin(ch: Channel, p: Piece, rules: Rules, note: Option<JoinNote>) -> Joined
+    ensures { as_joined result ≡ begun ch p rules (as_number note) }
 {
     if rules.limit < p.len {
-        return keep(ch, Phase::Waiting, note, true);
+        return keep(ch, note, true);
     }
-    let unit = p.unit;
     let current = OpenUnit {
-        unit,
+        unit: p.unit,
         counter: p.counter,
         len: p.len,
     };
-    let last = ch.last;
-    let channel = Channel {
-        phase: Phase::Open,
-        last,
-        current,
-    };
     Joined {
-        channel,
+        channel: Channel {
+            phase: Phase::Open,
+            current,
+            ..ch
+        },
         note,
         over: false,
         action: Action::Store(0),
@@ -110,130 +111,108 @@ fn begin(ch: Channel, p: Piece, rules: Rules, note: u8) -> Joined
 }
 
 // Whether a piece's counter is one lower than the one before, modulo 256.
+#[tactic(auto, unfolding(crate::specs::Join::counter_follows))]
 fn counter_follows(before: u8, counter: u8) -> bool
     ensures { result ≡ counter_follows before counter }
 {
-    before == std::num::wrapping_add_u8(counter, 1)
+    before == counter.wrapping_add(1)
 }
 
 // The open unit with this piece behind it.
+#[tactic(auto, unfolding(crate::specs::Join::grown))]
 fn grow(ch: Channel, p: Piece, last: bool) -> Joined
     requires { ch.current.len + p.len < 18446744073709551616 }
-    ensures { result ≡ grown ch p last }
+    ensures { as_joined result ≡ grown ch p last }
 {
-    let before = ch.current;
-    let at = before.len;
+    let at = ch.current.len;
+    let (phase, action) = if last {
+        (Phase::Idle, Action::Complete(at))
+    } else {
+        (Phase::Open, Action::Store(at))
+    };
     let current = OpenUnit {
         counter: p.counter,
         len: at + p.len,
-        ..before
-    };
-    let psn = ch.last;
-    if last {
-        let channel = Channel {
-            phase: Phase::Idle,
-            last: psn,
-            current,
-        };
-        return Joined {
-            channel,
-            note: 0,
-            over: false,
-            action: Action::Complete(at),
-        };
-    }
-    let channel = Channel {
-        phase: Phase::Open,
-        last: psn,
-        current,
+        ..ch.current
     };
     Joined {
-        channel,
-        note: 0,
+        channel: Channel {
+            phase,
+            current,
+            ..ch
+        },
+        note: None,
         over: false,
-        action: Action::Store(at),
+        action,
     }
 }
 
 // FI 10, or with `last` FI 11, while a unit is open.
+#[tactic(auto, unfolding(crate::specs::Join::extended))]
 fn extend(ch: Channel, p: Piece, rules: Rules, last: bool) -> Joined
-    ensures { result ≡ extended ch p rules last }
+    ensures { as_joined result ≡ extended ch p rules last }
 {
-    let current = ch.current;
-    let unit = current.unit;
-    let piece = p.unit;
-    if !crate::unit::agree(unit, piece) {
-        return keep(ch, Phase::Waiting, number(JoinNote::Apart), false);
+    let open = ch.current;
+    if !agree(open.unit, p.unit) || !counter_follows(open.counter, p.counter) {
+        return keep(ch, Some(JoinNote::Apart), false);
     }
-    if !counter_follows(current.counter, p.counter) {
-        return keep(ch, Phase::Waiting, number(JoinNote::Apart), false);
-    }
-    let at = current.len;
-    let limit = rules.limit;
-    if limit < p.len {
-        return keep(ch, Phase::Waiting, 0, true);
-    }
-    if limit - p.len < at {
-        return keep(ch, Phase::Waiting, 0, true);
+    if rules.limit < p.len || rules.limit - p.len < open.len {
+        return keep(ch, None, true);
     }
     grow(ch, p, last)
 }
 
 // FI 10, or with `last` FI 11.
+#[tactic(auto, unfolding(crate::specs::Join::followed))]
 fn follow(ch: Channel, p: Piece, rules: Rules, last: bool) -> Joined
-    ensures { result ≡ followed ch p rules last }
+    ensures { as_joined result ≡ followed ch p rules last }
 {
-    let phase = ch.phase;
-    match phase {
-        Phase::Unheard => keep(ch, Phase::Waiting, 0, false),
-        Phase::Waiting => keep(ch, Phase::Waiting, 0, false),
-        Phase::Idle => keep(ch, Phase::Waiting, number(JoinNote::Headless), false),
+    match ch.phase {
+        Phase::Unheard | Phase::Waiting => keep(ch, None, false),
+        Phase::Idle => keep(ch, Some(JoinNote::Headless), false),
         Phase::Open => extend(ch, p, rules, last),
     }
 }
 
 // (c): by the indicator and the phase.
+#[tactic(auto, unfolding(crate::specs::Join::acted))]
 fn act(ch: Channel, p: Piece, rules: Rules) -> Joined
-    ensures { result ≡ acted ch p rules }
+    ensures { as_joined result ≡ acted ch p rules }
 {
-    let phase = ch.phase;
-    let indicator = p.indicator;
-    match indicator {
-        Indicator::Whole => give(ch, interruption(phase)),
-        Indicator::First => begin(ch, p, rules, interruption(phase)),
+    match p.indicator {
+        Indicator::Whole => give(ch, interruption(ch.phase)),
+        Indicator::First => begin(ch, p, rules, interruption(ch.phase)),
         Indicator::Middle => follow(ch, p, rules, false),
         Indicator::Last => follow(ch, p, rules, true),
     }
 }
 
 // (a) a gap makes it waiting, (b) the psn is recorded.
+#[tactic(auto, unfolding(crate::specs::Join::heard_at))]
 fn hear(ch: Channel, psn: Psn, gap: bool) -> Channel
     ensures { result ≡ heard_at ch psn gap }
 {
-    let heard = Channel { last: psn, ..ch };
-    if gap {
-        return Channel {
-            phase: Phase::Waiting,
-            ..heard
-        };
+    Channel {
+        phase: if gap { Phase::Waiting } else { ch.phase },
+        last: psn,
+        ..ch
     }
-    heard
 }
 
 // (a), (b), and (c) the piece is read. `act` is called at one place, so that it can be inlined.
+#[tactic(auto, unfolding(crate::specs::Join::heard_at, crate::specs::Join::join_of))]
 pub fn join(ch: Channel, p: Piece, rules: Rules) -> Joined
-    ensures { result ≡ join_of ch p rules }
+    ensures { as_joined result ≡ join_of ch p rules }
 {
-    let unit = p.unit;
-    let psn = unit.psn;
+    let psn = p.unit.psn;
     let gap = is_gap(ch, psn);
     let heard = hear(ch, psn, gap);
-    let j = act(heard, p, rules);
+    let joined = act(heard, p, rules);
     if gap {
         return Joined {
-            note: number(JoinNote::Gap),
-            ..j
+            note: Some(JoinNote::Gap),
+            ..joined
         };
     }
-    j
+    joined
 }

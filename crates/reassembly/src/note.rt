@@ -1,29 +1,27 @@
-// The notes on joining, with document 01's numbers.
-ghost use Rattle.std.specs.Prelude.{◌≡◌};
-ghost use Rattle.reassembly.specs.Notes.{number_of};
+// The notes on joining, and their numbers.
 
-#[derive(Clone, Copy)]
+#[derive(Clone, Copy, PartialEq, Eq)]
 pub enum JoinNote {
     // A packet of the packet_id is missing: the psn is not the last one heard plus one.
-    Gap,
+    Gap = 60,
     // FI 00 or 01 comes while a unit is open, which is dropped.
-    Interrupted,
+    Interrupted = 61,
     // FI 10 or 11 comes while idle: its unit has no first piece.
-    Headless,
+    Headless = 62,
     // FI 10 or 11 does not agree with the open unit.
-    Apart,
+    Apart = 63,
     // The joined bytes are above R.
-    AboveLimit,
+    AboveLimit = 64,
 }
 
-pub fn number(note: JoinNote) -> u8
-    ensures { result ≡ number_of note }
-{
-    match note {
-        JoinNote::Gap => 60,
-        JoinNote::Interrupted => 61,
-        JoinNote::Headless => 62,
-        JoinNote::Apart => 63,
-        JoinNote::AboveLimit => 64,
+// The number that a note is known by.
+impl From<JoinNote> for u8 {
+    ghost use Rattle.std.specs.Prelude.{◌≡◌};
+    ghost use Rattle.reassembly.specs.Notes.{number_of};
+
+    ghost from_gives = { λ note number. number ≡ number_of note };
+
+    fn from(note: JoinNote) -> u8 {
+        note as u8
     }
 }

@@ -6,7 +6,7 @@ use mmtp::header::Psn;
 use mmtp::packet::Packet;
 use mmtp::unit::Fields;
 
-#[derive(Clone, Copy)]
+#[derive(Clone, Copy, Default)]
 pub struct Unit {
     pub packet_id: u16,
     pub kind: u8,
@@ -22,34 +22,23 @@ pub struct Unit {
 pub fn of_packet(p: Packet, fields: Fields) -> Unit
     ensures { result ≡ carried p fields }
 {
-    let payload = p.payload;
-    let psn = p.psn;
     Unit {
         packet_id: p.packet_id,
-        kind: payload.kind,
-        psn,
-        mpu: payload.mpu,
+        kind: p.payload.kind,
+        psn: p.psn,
+        mpu: p.payload.mpu,
         fields,
     }
 }
 
-// Whether a further piece belongs to the open unit, as far as the two carry the same.
+// Whether a further piece belongs to the open unit, as far as the two carry the same: not in all fields, so `==` says too much.
+#[tactic(auto, unfolding(crate::specs::Unit::agrees))]
 pub fn agree(unit: Unit, piece: Unit) -> bool
     ensures { result ≡ agrees unit piece }
 {
-    if unit.kind != piece.kind {
-        return false;
-    }
-    if unit.mpu != piece.mpu {
-        return false;
-    }
-    let f = unit.fields;
-    let g = piece.fields;
-    if f.movie_fragment != g.movie_fragment {
-        return false;
-    }
-    if f.sample != g.sample {
-        return false;
-    }
-    f.item == g.item
+    unit.kind == piece.kind
+        && unit.mpu == piece.mpu
+        && unit.fields.movie_fragment == piece.fields.movie_fragment
+        && unit.fields.sample == piece.fields.sample
+        && unit.fields.item == piece.fields.item
 }
