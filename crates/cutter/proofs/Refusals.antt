@@ -8,8 +8,8 @@ use lib.ListN.{length}
 use lib.Dec.{eqb}
 use borrow.Author.Tests.{eqb-true, eqb-false}
 use Rattle.tmcc.specs.declared.layout.Pointers.{Pointers}
-use Rattle.cutter.specs.declared.slot.CutSlot.{CutSlot}
-use Rattle.cutter.specs.declared.slot.CutSlot.TheVariants.{Cut, Refused}
+use Rattle.cutter.specs.Cut.{CutSlot}
+use Rattle.cutter.specs.Cut.{Cut, Refused}
 use Rattle.cutter.specs.Slot.{cut_refusal, slot_at, pointed, slot_cut}
 use Rattle.cutter.proofs.SlotLaws.{refusal_bounds}
 use Rattle.cutter.specs.Claims.{CutRefused}

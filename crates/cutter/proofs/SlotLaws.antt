@@ -3,7 +3,10 @@ use Rattle.std.specs.Prelude.{ℕ, ◌+◌, ◌*◌, ◌≤◌, ◌<◌, ◌≡�
 use Rattle.std.proofs.Common.{suc-mul, add-one, arith}
 use borrow.Author.Tests.{lt-ltb, le-ltb, eq-eqb, ne_eqb, ltb-false, eqb-true}
 use Rattle.wire.proofs.Choice.{either}
-use Rattle.cutter.specs.declared.slot.CutSlot.TheVariants.{Refused}
+use Rattle.refusal.specs.declared.Refusal.{Refusal}
+use Rattle.refusal.proofs.Numbers.{number-some}
+use Rattle.refusal.specs.Refusal.{number_of}
+use Rattle.cutter.specs.Cut.{Refused}
 use Rattle.cutter.specs.Slot.{whole, unlisted, cut_refusal, slot_at, pointed, slot_cut, Accepted}
 
 -- by cases: the four refusals
@@ -69,6 +72,10 @@ module _ (run : List ℕ) (l s : ℕ) (output : List ℕ) where
       → slot_cut run l s output ≡ (Refused (cut_refusal run l s (length output)), output)
   unfolding slot_cut
   slot-refused n = rw (ne_eqb _ _ n)
+
+  pub refused-with : (e : Refusal) → number_of e ≡ cut_refusal run l s (length output)
+      → slot_cut run l s output ≡ (Refused (number_of e), output)
+  refused-with e h = rw h (slot-refused (rw h at (number-some e)))
 
   pub slot-cut : cut_refusal run l s (length output) ≡ 0
       → slot_cut run l s output ≡ (pointed (slot_at run l s), (slot_at run l s).bytes)

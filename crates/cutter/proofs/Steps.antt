@@ -16,7 +16,7 @@ use Rattle.tlv.specs.Slot.{none, sound}
 use Rattle.tlv.specs.Held.{held_total, held_end, end_within, end_beyond, continuation_of}
 use Rattle.tlv.proofs.HeldLaws.{nothing-held, held-without-top, held-before-top}
 use Rattle.tlv.specs.Run.{Slot, without_top, Event, note, packet, State, searching, held, Stepped}
-use Rattle.tlv.specs.Run.{packet_of, after, kept, read_from, finished, resumed, arrived, Clean}
+use Rattle.tlv.specs.Run.{packet_of, kept, read_from, finished, resumed, arrived, Clean}
 use Rattle.cutter.specs.Pointers.{top_of, last_of}
 use Rattle.cutter.specs.Claims.{AllShort}
 use Rattle.cutter.proofs.Packets.{whole-complete}

@@ -1,12 +1,17 @@
 -- The data lengths of the table, by one test computed over it.
-use Prim.Native.Nat.{ℕ, zero, suc, ◌+◌, ◌≤◌}
-use mathlib.Core.Path.{◌≡◌, refl}
+use Prim.Native.Nat.{ℕ, zero, suc, ◌+◌, ◌≤◌, ◌<◌}
+use mathlib.Core.Path.{◌≡◌, refl, sym}
+use Rattle.std.proofs.Common.{◌≢◌, add_comm, length}
+use Rattle.std.specs.Bool.{MatchBool}
+use Rattle.std.specs.List.{range_with_len, AllWithin, HoldsAt}
+use Rattle.std.proofs.lemmas.List.FromFn.{get_or-range_with_len}
 use mathlib.Core.Bool.{Bool, true, false, ◌&&◌, and-eq-true_iff, and-true, true≢false}
 use native.Mathlib.Omega.{arith}
 use lib.Dec.{leb}
-use borrow.Author.Tests.{eqb-true, leb-true, not-false}
+use borrow.Author.Tests.{eqb-true, eq-eqb, ne_eqb, leb-true, not-false}
 use Rattle.tmcc.specs.Count.{all_below}
 use Rattle.tmcc.specs.Mode.{data_bytes}
+use Rattle.tmcc.proofs.CountLaws.{all-below-false}
 use Rattle.cutter.specs.Slot.{other_rate, unlisted}
 
 -- where one number fails a test, and each passes another
@@ -21,6 +26,23 @@ found {P} p q (suc n) f t give =
     go : (b : Bool) → p n ≡ b → q n ≡ true → (all_below p n ≡ false → P) → P
     go false e h ih = give n e h
     go true e h ih = ih (rw (e, and-true (all_below p n)) at f)
+
+every : (p : ℕ → Bool) (n : ℕ) → ((k : ℕ) → k < n → p k ≡ true) → all_below p n ≡ true
+unfolding all_below
+every p zero h = refl
+every p (suc n) h = rw (every p n (λ k l. h k (omega arith)), h n (omega arith))
+
+-- whether a length is not in the table, by what `all` says of the code rates
+pub unlisted-by : (l : ℕ) (r : Bool)
+    → MatchBool r (AllWithin (λ k. data_bytes k ≢ l) (range_with_len 1 11) 0 (length (range_with_len 1 11)))
+    ((k : ℕ) × (k < length (range_with_len 1 11)) × HoldsAt (λ k. data_bytes k ≡ l) (range_with_len 1 11) k)
+    → r ≡ unlisted l
+unfolding unlisted
+unlisted-by l true h =
+    sym (every (other_rate l) 11 (λ k i. rw (ne_eqb _ _ (rw (get_or-range_with_len 1 11 k 0 i, add_comm 1 k) at (h k 0 (omega arith) i)))))
+unlisted-by l false h =
+    let e : data_bytes (h.0 + 1) ≡ l = rw (get_or-range_with_len 1 11 h.0 0 h.1, add_comm 1 h.0) at (h.2 0) in
+    sym (all-below-false (other_rate l) h.0 11 h.1 (rw (eq-eqb _ _ e)))
 
 abbrev between : ℕ → Bool
 between k = leb 1870 (data_bytes (k + 1)) && leb (data_bytes (k + 1)) 5049

@@ -6,7 +6,7 @@ use Rattle.tlv.specs.Packet.{cut, max_packet}
 use Rattle.tlv.specs.Slot.{sound}
 use Rattle.tlv.specs.Run.{Slot, Labelled, searching, packets, Clean, intact}
 use Rattle.tlv.specs.Run.{run as events}
-use Rattle.cutter.specs.declared.slot.CutSlot.TheVariants.{Cut, Refused}
+use Rattle.cutter.specs.Cut.{Cut, Refused}
 use Rattle.cutter.specs.Slot.{whole, unlisted, slot_at, pointed, slot_cut}
 
 -- demand 1: a refused call returns a number of document 01's, 75 to 78, and the output is as it was

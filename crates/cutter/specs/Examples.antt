@@ -1,8 +1,8 @@
 -- Examples of slots of 1870 bytes, and of the refusals in their order.
 use Rattle.std.specs.Prelude.{ℕ, ◌+◌, ◌*◌, ◌≡◌, List, [], ◌∷◌, ◌++◌, replicate}
 use Rattle.tlv.specs.Slot.{none}
-use Rattle.cutter.specs.declared.slot.CutSlot.{CutSlot}
-use Rattle.cutter.specs.declared.slot.CutSlot.TheVariants.{Cut, Refused}
+use Rattle.cutter.specs.Cut.{CutSlot}
+use Rattle.cutter.specs.Cut.{Cut, Refused}
 use Rattle.cutter.specs.Slot.{slot_cut}
 
 -- a packet whose length field has these two bytes

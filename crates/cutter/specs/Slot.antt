@@ -4,8 +4,8 @@ use Rattle.tmcc.specs.Count.{all_below}
 use Rattle.tmcc.specs.Mode.{data_bytes}
 use Rattle.tlv.specs.Packet.{cut}
 use Rattle.tlv.specs.Run.{Slot}
-use Rattle.cutter.specs.declared.slot.CutSlot.{CutSlot}
-use Rattle.cutter.specs.declared.slot.CutSlot.TheVariants.{Cut, Refused}
+use Rattle.cutter.specs.Cut.{CutSlot}
+use Rattle.cutter.specs.Cut.{Cut, Refused}
 use Rattle.cutter.specs.Pointers.{top_of, last_of}
 
 -- whole TLV packets, each with a good first byte

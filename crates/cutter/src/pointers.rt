@@ -7,31 +7,29 @@ use tlv::slot::NONE;
 use tmcc::layout::Pointers;
 
 // The top pointer so far, and a packet that starts at `start`.
+#[tactic(auto, using(std::proofs::lemmas::Bool::Decides::nat_tests), unfolding(crate::specs::Pointers::top_with, crate::specs::Pointers::in_slot))]
 fn top_with(top: u16, from: usize, l: usize, start: usize) -> u16
     requires { (start < from + l) × (l < 65536) }
     ensures { result ≡ top_with top from l start }
 {
-    if top != NONE {
-        return top;
+    if top != NONE || start < from {
+        top
+    } else {
+        (start - from) as u16
     }
-    if start < from {
-        return NONE;
-    }
-    (start - from) as u16
 }
 
 // The last pointer so far, and a packet that ends at `end`.
+#[tactic(auto, using(std::proofs::lemmas::Bool::Decides::nat_tests), unfolding(crate::specs::Pointers::last_with, crate::specs::Pointers::in_slot))]
 fn last_with(last: u16, from: usize, l: usize, end: usize) -> u16
     requires { (0 < end) × (l < 65536) }
     ensures { result ≡ last_with last from l end }
 {
-    if end <= from {
-        return last;
+    if end <= from || l < end - from {
+        last
+    } else {
+        (end - from) as u16
     }
-    if l < end - from {
-        return last;
-    }
-    (end - from) as u16
 }
 
 // The pointers of the slot of `l` bytes that begins at `from`.
@@ -43,6 +41,7 @@ pub fn find(run: &[u8], from: usize, l: usize) -> Pointers
     let mut top = NONE;
     let mut last = NONE;
     let mut at = 0;
+    // A step is a packet, not a place.
     while at < to {
         let end = at + tlv::packet::total_at(run, at);
         top = top_with(top, from, l, at);

@@ -1,73 +1,54 @@
 // A slot cut from a run, or the first refusal that the call meets.
 ghost use Rattle.std.specs.Prelude.{◌≡◌, length};
+ghost use Rattle.refusal.specs.Refusal.{answer};
+ghost use Rattle.cutter.specs.Cut.{as_cut};
 ghost use Rattle.cutter.specs.Slot.{whole, unlisted, cut_refusal, slot_cut};
 
-use tlv::packet::Walked;
+use refusal::Refusal;
 use tmcc::layout::Pointers;
-
-#[derive(Clone, Copy)]
-pub enum CutSlot {
-    // The output is the slot's bytes; its top and last pointer.
-    Cut(Pointers),
-    // 75 to 78.
-    Refused(u8),
-}
+use tmcc::mode::data_bytes;
 
 // Whether a run is whole TLV packets with good first bytes.
 fn is_whole(run: &[u8]) -> bool
     ensures { result ≡ whole run.now }
 {
-    let w = tlv::packet::walk(run, 0);
-    match w {
-        Walked::Unmarked => false,
-        Walked::Tail(end) => end == run.len(),
-    }
+    tlv::packet::walk(run, 0) == Some(run.len())
 }
 
 // Whether no code rate has `l` data bytes.
 fn is_unlisted(l: usize) -> bool
     ensures { result ≡ unlisted l }
 {
-    let mut rate: u8 = 0;
-    while rate < 11 {
-        if tmcc::mode::data_bytes(rate + 1) as usize == l {
-            return false;
-        }
-        rate += 1;
-    }
-    true
+    (1..12).all(|rate| usize::from(data_bytes(rate)) != l)
 }
 
-// Refusals 75 to 78; 0 for none. `n` is the output's length.
-fn refusal(run: &[u8], l: usize, s: usize, n: usize) -> u8
-    ensures { result ≡ cut_refusal run.now l s n }
+// The first refusal that such a call meets. `n` is the output's length.
+fn test(run: &[u8], l: usize, s: usize, n: usize) -> Result<(), Refusal>
+    ensures { answer result ≡ cut_refusal run.now l s n }
 {
     if !is_whole(run) {
-        return 75;
+        return Err(Refusal::Run);
     }
     if is_unlisted(l) {
-        return 76;
+        return Err(Refusal::SlotSize);
     }
     // The slots that the run fills: the product (s + 1) × L may not fit.
     if run.len() / l <= s {
-        return 77;
+        return Err(Refusal::SlotNumber);
     }
     if n != l {
-        return 78;
+        return Err(Refusal::SlotOutput);
     }
-    0
+    Ok(())
 }
 
 // Copies slot `s` of `l` bytes of a run to `output`, and gives its pointers.
-pub fn cut_slot(run: &[u8], l: usize, s: usize, output: &mut [u8]) -> CutSlot
-    ensures { (result, output.new) ≡ slot_cut run.now l s output.old }
+pub fn cut_slot(run: &[u8], l: usize, s: usize, output: &mut [u8]) -> Result<Pointers, Refusal>
+    ensures { (as_cut result, output.new) ≡ slot_cut run.now l s output.old }
 {
-    let refusal = refusal(run, l, s, output.len());
-    if refusal != 0 {
-        return CutSlot::Refused(refusal);
-    }
+    test(run, l, s, output.len())?;
     let from = s * l;
-    let p = crate::pointers::find(run, from, l);
-    wire::memory::copy_at(output, 0, &run[from..from + l]);
-    CutSlot::Cut(p)
+    let pointers = crate::pointers::find(run, from, l);
+    output.copy_from_slice(&run[from..from + l]);
+    Ok(pointers)
 }

@@ -64,14 +64,6 @@ pub head-not-4 : (kind : ℕ) → (kind ≡ 4 → ⊥) → payload_head_bytes ki
 unfolding payload_head_bytes
 head-not-4 kind e = rw (ne_eqb _ _ e)
 
-pub fields-2 : (kind : ℕ) → kind ≡ 2 → field_bytes kind ≡ 14
-unfolding field_bytes
-fields-2 kind e = rw e
-
-pub fields-3 : (kind : ℕ) → kind ≡ 3 → field_bytes kind ≡ 4
-unfolding field_bytes
-fields-3 kind e = rw e
-
 pub field-bytes-most : (kind : ℕ) → field_bytes kind ≤ 14
 unfolding field_bytes
 field-bytes-most kind = go (eqb kind 2) (eqb kind 3)

@@ -2,8 +2,8 @@
 use Rattle.std.proofs.Common.{◌≡◌, ℕ, ◌+◌, ◌*◌, List, length, replicate, refl, ap, ◌∙◌, arith}
 use lib.ListN.{length-replicate}
 use Rattle.mmtp.specs.Unit.{field_bytes}
-use Rattle.packer.specs.declared.pack.Packed.{Packed}
-use Rattle.packer.specs.declared.pack.Packed.TheVariants.{Written}
+use Rattle.packer.specs.Packed.{Packed}
+use Rattle.packer.specs.Packed.{Written}
 use Rattle.packer.specs.Pieces.{count_by, count_of}
 use Rattle.packer.specs.Writing.{payload_head_bytes, head_bytes}
 use Rattle.packer.specs.Examples.{unit, MostPieces}

@@ -1,19 +1,15 @@
 -- A packet is read as it was meant: its flow, its MMTP header, its payload and its data unit.
+use Rattle.std.specs.Prelude.{Some, None}
 use Rattle.std.proofs.Common.{◌≡◌, ℕ, zero, suc, ◌+◌, ◌-◌, ◌*◌, ◌%◌, ◌^◌, ◌<◌, ◌≤◌, Bool, true, false, cond, eqb, List, [], ◌∷◌, ◌++◌, length, get_or, drop, sym, refl, ◌∙◌, mod-lt, arith, get_or-drop, drop-drop, drop_at, eq-eqb, ne_eqb, eqb-true, le-leb}
 use borrow.Author.Tests.{eqb-false}
 use Rattle.wire.specs.Bits.{bits_at}
 use Rattle.wire.specs.Field.{be, bytes_of}
 use Rattle.wire.proofs.FieldLaws.{be-drop}
-use Rattle.mmtp.specs.declared.flow.Flow.TheVariants.{Mmtp}
-use Rattle.mmtp.specs.declared.flow.Compressed.TheVariants.{Start}
+use Rattle.mmtp.specs.Flow.{Mmtp, flow_of, compressed_header}
 use Rattle.mmtp.specs.declared.header.Header.{Header}
-use Rattle.mmtp.specs.declared.header.HeaderRead.TheVariants.{Good as GoodHead}
 use Rattle.mmtp.specs.declared.payload.Indicator.{Indicator}
 use Rattle.mmtp.specs.declared.payload.Indicator.TheVariants.{Whole, First, Middle, Last}
-use Rattle.mmtp.specs.declared.payload.FragmentType.TheVariants.{Kind}
-use Rattle.mmtp.specs.declared.payload.PayloadRead.TheVariants.{Malformed as BadBody, Good as GoodBody}
 use Rattle.mmtp.specs.declared.unit.Fields.{Fields}
-use Rattle.mmtp.specs.Flow.{flow_of, compressed_header}
 use Rattle.mmtp.proofs.FlowLaws.{type-3, own-cid, behind-whole}
 use Rattle.mmtp.specs.Header.{first, plain, fixed_bytes, extension_bytes, payload_start, header_of}
 use Rattle.mmtp.proofs.HeaderLaws.{header-good, plain-good}
@@ -25,7 +21,6 @@ use Rattle.mmtp.proofs.PayloadLaws.{units_single, pieces_single}
 use Rattle.mmtp.specs.Packet.{body_read}
 use Rattle.mmtp.proofs.PacketLaws.{watched}
 use Rattle.watch.specs.declared.given.Watch.{Watch}
-use Rattle.watch.specs.declared.given.Found.TheVariants.{At}
 use Rattle.watch.specs.Given.{lookup_of}
 use Rattle.mmtp.specs.Unit.{field_bytes, no_fields, timed_fields as timedRead, item_fields, fields_of, piece_of, single_fits}
 use Rattle.reassembly.specs.declared.unit.Unit.{Unit}
@@ -63,7 +58,7 @@ module _ (cid sn : ℕ) (p : Piece) (s : List ℕ) where
   unfolding packet_of outer_head
   type-field = refl
 
-  header-field : compressed_header (get_or (packet_of cid sn p s) 6 0) ≡ Start 3
+  header-field : compressed_header (get_or (packet_of cid sn p s) 6 0) ≡ Some 3
   unfolding packet_of outer_head bytes_of compressed_header
   header-field = refl
 
@@ -84,7 +79,7 @@ fi_bits Last = (omega arith, refl)
 
 -- fragment type and timed as five bits, and back
 kind_bits : (k : ℕ) → k < 4
-    → (fragment_bits k % 8 ≡ 0) × (fragment_type_of (bits_at 4 4 (fragment_bits k)) (flag 3 (fragment_bits k)) ≡ Kind k)
+    → (fragment_bits k % 8 ≡ 0) × (fragment_type_of (bits_at 4 4 (fragment_bits k)) (flag 3 (fragment_bits k)) ≡ Some k)
 unfolding fragment_bits fragment_type_of
 kind_bits zero h = (refl, refl)
 kind_bits (suc zero) h = (refl, refl)
@@ -94,7 +89,7 @@ kind_bits (suc (suc (suc (suc n)))) h = absurd (omega arith)
 
 -- the byte with FT, timed and FI: each is read from it, and no A
 pub record ThirdByte (k : ℕ) (i : Indicator) (b : ℕ) : Type 0 where
-  pub type : fragment_type_of (bits_at 4 4 b) (flag 3 b) ≡ Kind k
+  pub type : fragment_type_of (bits_at 4 4 b) (flag 3 b) ≡ Some k
   pub fi : indicator_of (bits_at 1 2 b) ≡ i
   pub alone : flag 0 b ≡ false
 
@@ -169,7 +164,7 @@ module _ (p : Piece) (s : List ℕ) where
       be-behind 4 u.psn.0 (0 ∷ payload_type_of u.kind ∷ bytes_of 2 u.packet_id ++ bytes_of 4 0)
       (payload_head p (length (data_unit p s)) ++ data_unit p s) 8 refl h
 
-  pub header_read : Packable p.unit → header_of (mmtp_of p s) ≡ GoodHead (header_meant p)
+  pub header_read : Packable p.unit → header_of (mmtp_of p s) ≡ Some (header_meant p)
   header_read w =
       let m = mmtp_of p s in
       let l : payload_start m ≤ length m = rw start-12 (omega (arith, length_mmtp p s)) in
@@ -210,14 +205,14 @@ module _ (p : Piece) (s : List ℕ) where
       be-behind 4 p.unit.mpu (bytes_of 2 (6 + length (data_unit p s)) ++ (t ∷ p.counter ∷ [])) (data_unit p s) 4 refl h
 
   module _ (w : Packable p.unit) where
-    signalling_read : p.unit.kind ≡ 4 → signalling_of (mmtp_of p s) 12 ≡ GoodBody (meant 0 p).payload
+    signalling_read : p.unit.kind ≡ 4 → signalling_of (mmtp_of p s) 12 ≡ Some (meant 0 p).payload
     signalling_read k =
         let f = first_byte p.indicator in
         let e = head-4 p.unit.kind k in
         let l : 2 ≤ length (mmtp_of p s) - 12 = omega (arith, length_mmtp p s) in
         signalling_by (mmtp_of p s) 12 l ∙ rw (behind_signalling k, f.fi, f.alone, f.narrow, e, k, w.own-mpu k)
 
-    mpu-read : (p.unit.kind ≡ 4 → ⊥) → length s ≤ 1400 → mpu_of (mmtp_of p s) 12 ≡ GoodBody (meant 0 p).payload
+    mpu-read : (p.unit.kind ≡ 4 → ⊥) → length s ≤ 1400 → mpu_of (mmtp_of p s) 12 ≡ Some (meant 0 p).payload
     mpu-read k h =
         let m = mmtp_of p s in
         let e = head-not-4 p.unit.kind k in
@@ -228,16 +223,16 @@ module _ (p : Piece) (s : List ℕ) where
         let q : be 2 m 12 ≡ 6 + length (data_unit p s) = sym (be-drop 2 12 m 0) ∙ rw (behind-mpu k) (mpu-length h) in
         let v : get_or m 14 0 ≡ fragment_bits p.unit.kind + indicator_bits p.indicator * 2 =
         sym (get_or-drop 12 m 2 0) ∙ rw (behind-mpu k) b.0 in
-        mpu-by m 12 (omega arith) (omega arith) (Kind p.unit.kind) (rw v t.type)
+        mpu-by m 12 (omega arith) (omega arith) (Some p.unit.kind) (rw v t.type)
         ∙ rw (behind-mpu k, b.0, b.1, t.fi, t.alone, mpu-number w.mpus, e)
 
-    parsed-read : length s ≤ 1400 → parsed_of (mmtp_of p s) 12 (payload_type_of p.unit.kind) ≡ GoodBody (meant 0 p).payload
+    parsed-read : length s ≤ 1400 → parsed_of (mmtp_of p s) 12 (payload_type_of p.unit.kind) ≡ Some (meant 0 p).payload
     unfolding parsed_of payload_type_of
     parsed-read h = go (eqb p.unit.kind 4) refl
       where
         go : (t : Bool) → eqb p.unit.kind 4 ≡ t
-            → cond (eqb (cond t 2 0) 0) (mpu_of (mmtp_of p s) 12) (cond (eqb (cond t 2 0) 2) (signalling_of (mmtp_of p s) 12) BadBody)
-            ≡ GoodBody (meant 0 p).payload
+            → cond (eqb (cond t 2 0) 0) (mpu_of (mmtp_of p s) 12) (cond (eqb (cond t 2 0) 2) (signalling_of (mmtp_of p s) 12) None)
+            ≡ Some (meant 0 p).payload
         go true e = signalling_read (eqb-true _ _ e)
         go false e = mpu-read (eqb-false _ _ e) h
 
@@ -250,7 +245,7 @@ module _ (p : Piece) (s : List ℕ) where
         le-leb _ _ h
 
     pub payload_read : counter_fits p.indicator p.counter ≡ true → length s ≤ 1400
-        → payload_of (mmtp_of p s) 12 (payload_type_of p.unit.kind) ≡ GoodBody (meant 0 p).payload
+        → payload_of (mmtp_of p s) 12 (payload_type_of p.unit.kind) ≡ Some (meant 0 p).payload
     unfolding aggregation_fits
     payload_read c h =
         let y = (meant 0 p).payload in
@@ -346,7 +341,7 @@ with-packable u i w =
     }
 
 module _ (u : Unit) (cid sn place : ℕ) (w : Watch) (o : Packable u) (c : cid < 4096)
-    (l : lookup_of w u.packet_id ≡ At place) where
+    (l : lookup_of w u.packet_id ≡ Some place) where
   pub packet-at-read : (n i : ℕ) (s : List ℕ) → i < n → length s ≤ 1400
       → WholePacket (packet_at u cid sn n i s) × ReadAs cid place w (piece_at u n i (length s)) s (packet_at u cid sn n i s)
   unfolding packet_at piece_at with_psn

@@ -5,8 +5,8 @@ use lib.Seq.{take-length, take-append_seam}
 use Rattle.wire.proofs.Choice.{either}
 use Rattle.wire.specs.Memory.{pasted}
 use Rattle.reassembly.specs.declared.unit.Unit.{Unit}
-use Rattle.packer.specs.declared.pack.Packed.{Packed}
-use Rattle.packer.specs.declared.pack.Packed.TheVariants.{Written, Refused}
+use Rattle.packer.specs.Packed.{Packed}
+use Rattle.packer.specs.Packed.{Written, Refused}
 use Rattle.packer.specs.Pieces.{pieces, count_of, max_pieces}
 use Rattle.packer.specs.Packer.{run, packed, pack_refusal, pack_of}
 use Rattle.packer.specs.Writing.{head_bytes}

@@ -1,15 +1,7 @@
 -- Bytes put into a memory, list behind list.
-use Rattle.std.proofs.Common.{◌≡◌, ℕ, ◌+◌, ◌<◌, ◌≤◌, List, [], ◌∷◌, ◌++◌, length, set, sym, ap, ◌∙◌, add-zero, arith, length-append}
+use Rattle.std.proofs.Common.{◌≡◌, ℕ, ◌+◌, ◌≤◌, List, ◌++◌, length, ap, ◌∙◌, arith, length-append}
 use Rattle.wire.specs.Memory.{pasted}
-use Rattle.wire.proofs.MemoryLaws.{pasted-zero, pasted-one, pasted-append}
-
--- one byte
-pub put_one : (d : List ℕ) (at v : ℕ) → at < length d → set d at v ≡ pasted d at (v ∷ []) 1
-put_one d at v h =
-    let b : List ℕ = v ∷ [] in
-    ap (λ (l : List ℕ). set l at v) (pasted-zero d at b)
-    ∙ ap (λ (k : ℕ). set (pasted d at b 0) k v) (sym (add-zero at))
-    ∙ pasted-one d at b 0 (omega arith) (omega arith)
+use Rattle.wire.proofs.MemoryLaws.{pasted-append}
 
 -- `e` is `d` with the `n` bytes of `s` put in from `at` on
 pub record Wrote (d : List ℕ) (at : ℕ) (e s : List ℕ) (n : ℕ) : Type 0 where

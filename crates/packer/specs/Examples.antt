@@ -2,7 +2,7 @@
 use Rattle.std.specs.Prelude.{◌≡◌, ℕ, ◌*◌, List, [], ◌∷◌, length, take, drop, replicate}
 use Rattle.mmtp.specs.declared.unit.Fields.{Fields}
 use Rattle.reassembly.specs.declared.unit.Unit.{Unit}
-use Rattle.packer.specs.declared.pack.Packed.TheVariants.{Written, Refused}
+use Rattle.packer.specs.Packed.{Written, Refused}
 use Rattle.packer.specs.Pieces.{pieces, count_by, max_pieces}
 use Rattle.packer.specs.Packer.{packets, run, pack_refusal, pack_of}
 

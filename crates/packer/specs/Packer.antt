@@ -2,8 +2,8 @@
 use Rattle.std.specs.Prelude.{ℕ, ◌+◌, ◌%◌, cond, List, [], ◌∷◌, ◌++◌, length, ◌==◌, nat_lt}
 use Rattle.wire.specs.Memory.{pasted}
 use Rattle.reassembly.specs.declared.unit.Unit.{Unit}
-use Rattle.packer.specs.declared.pack.Packed.{Packed}
-use Rattle.packer.specs.declared.pack.Packed.TheVariants.{Written, Refused}
+use Rattle.packer.specs.Packed.{Packed}
+use Rattle.packer.specs.Packed.{Written, Refused}
 use Rattle.packer.specs.Pieces.{pieces, max_pieces, piece_at}
 use Rattle.packer.specs.Packet.{packet_of}
 

@@ -1,17 +1,14 @@
 -- What is claimed of packed units: each packet is a whole TLV packet, and is read as the packet that was meant.
-use Rattle.std.specs.Prelude.{◌≡◌, ℕ, ◌+◌, ◌^◌, ◌<◌, ◌≤◌, true, false, cond, List, [], ◌∷◌, length, drop, ◌==◌}
+use Rattle.std.specs.Prelude.{◌≡◌, ℕ, ◌+◌, ◌^◌, ◌<◌, ◌≤◌, true, false, cond, List, [], ◌∷◌, length, drop, ◌==◌, Some}
 use Rattle.tlv.specs.Packet.{total, marked, complete, cut, max_packet}
-use Rattle.mmtp.specs.declared.flow.Flow.TheVariants.{Mmtp}
+use Rattle.mmtp.specs.Flow.{Mmtp, flow_of}
 use Rattle.mmtp.specs.declared.unit.Fields.{Fields}
 use Rattle.mmtp.specs.declared.packet.Packet.{Packet}
-use Rattle.mmtp.specs.declared.packet.Reading.TheVariants.{Good}
+use Rattle.mmtp.specs.Packet.{Good, reading_of}
 use Rattle.watch.specs.declared.given.Watch.{Watch}
-use Rattle.watch.specs.declared.given.Found.TheVariants.{At}
-use Rattle.mmtp.specs.Flow.{flow_of}
 use Rattle.watch.specs.Given.{lookup_of}
 use Rattle.mmtp.specs.Unit.{no_fields}
 use Rattle.mmtp.specs.Payload.{counter_fits, pieces_of}
-use Rattle.mmtp.specs.Packet.{reading_of}
 use Rattle.reassembly.specs.declared.unit.Unit.{Unit}
 use Rattle.reassembly.specs.declared.join.Piece.{Piece}
 use Rattle.packer.specs.Pieces.{pieces, piece_at}
@@ -95,7 +92,7 @@ pub record ReadAs (cid place : ℕ) (w : Watch) (p : Piece) (s b : List ℕ) : T
 abbrev pub PacketRead : Type 0
 PacketRead =
     (cid sn place : ℕ) (w : Watch) (p : Piece) (s : List ℕ) → cid < 4096 → sn < 16 → Packable p.unit
-    → counter_fits p.indicator p.counter ≡ true → length s ≤ 1400 → lookup_of w p.unit.packet_id ≡ At place
+    → counter_fits p.indicator p.counter ≡ true → length s ≤ 1400 → lookup_of w p.unit.packet_id ≡ Some place
     → ReadAs cid place w p s (packet_of cid sn p s)
 
 -- packets of a unit of `n` pieces, from piece `i` on: each is read as its piece
@@ -109,6 +106,6 @@ AllRead cid place w u n i (s ∷ ss) (b ∷ bs) =
 abbrev pub PacketsRead : Type 0
 PacketsRead =
     (u : Unit) (cid sn m place : ℕ) (w : Watch) (s : List ℕ) → Packable u → cid < 4096 → 0 < m → m ≤ 1400
-    → lookup_of w u.packet_id ≡ At place
+    → lookup_of w u.packet_id ≡ Some place
     → AllWhole (packets u cid sn m s) × AllShort (packets u cid sn m s)
     × AllRead cid place w u (length (pieces m s)) 0 (pieces m s) (packets u cid sn m s)

@@ -1,7 +1,7 @@
 -- What is claimed of refused calls of the packer.
 use Rattle.std.specs.Prelude.{◌≡◌, ℕ, ◌≤◌, List}
 use Rattle.reassembly.specs.declared.unit.Unit.{Unit}
-use Rattle.packer.specs.declared.pack.Packed.TheVariants.{Refused}
+use Rattle.packer.specs.Packed.{Refused}
 use Rattle.packer.specs.Packer.{pack_of}
 
 -- demand 1: a refused call returns a number of document 01's, 70 to 74, and the output is as it was

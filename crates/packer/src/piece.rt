@@ -16,12 +16,13 @@ pub fn count(len: usize, m: usize) -> usize
     ensures { result ≡ count_by max_pieces m len }
 {
     let mut left = len;
-    let mut n = 1;
-    while n <= MAX_PIECES && m < left {
+    for n in 1..=MAX_PIECES {
+        if left <= m {
+            return n;
+        }
         left -= m;
-        n += 1;
     }
-    n
+    MAX_PIECES + 1
 }
 
 // At most `m` bytes from `from`.
@@ -29,30 +30,29 @@ pub fn cut(bytes: &[u8], from: usize, m: usize) -> &[u8]
     requires { from ≤ length bytes.now }
     ensures { result.now ≡ take m (drop from bytes.now) }
 {
-    if bytes.len() - from <= m {
-        return &bytes[from..];
-    }
-    &bytes[from..from + m]
+    let rest = &bytes[from..];
+    &rest[..m.min(rest.len())]
 }
 
 // FI of piece `i` of `n`.
+#[tactic(auto, unfolding(crate::specs::Pieces::indicator_at))]
 fn indicator_at(n: usize, i: usize) -> Indicator
     requires { i < n }
     ensures { result ≡ indicator_at n i }
 {
     if n == 1 {
-        return Indicator::Whole;
+        Indicator::Whole
+    } else if i == 0 {
+        Indicator::First
+    } else if i + 1 == n {
+        Indicator::Last
+    } else {
+        Indicator::Middle
     }
-    if i == 0 {
-        return Indicator::First;
-    }
-    if i + 1 == n {
-        return Indicator::Last;
-    }
-    Indicator::Middle
 }
 
 // The counter of piece `i` of `n`: how many pieces come behind it, modulo 256.
+#[tactic(auto, unfolding(crate::specs::Pieces::counter_at))]
 fn counter_at(n: usize, i: usize) -> u8
     requires { i < n }
     ensures { result ≡ counter_at n i }
@@ -61,15 +61,14 @@ fn counter_at(n: usize, i: usize) -> u8
 }
 
 // Piece `i` of `n`, of `len` bytes: the unit with the packet's own psn, FI and counter.
+#[tactic(auto, unfolding(crate::specs::Pieces::with_psn, crate::specs::Pieces::piece_at))]
 pub fn number(unit: Unit, n: usize, i: usize, len: usize) -> Piece
     requires { (i < n) × (n ≤ max_pieces) }
     ensures { result ≡ piece_at unit n i len }
 {
-    let first = unit.psn;
-    let psn = Psn(std::num::wrapping_add_u32(first.0, i as u32));
-    let own = Unit { psn, ..unit };
+    let psn = Psn(unit.psn.0.wrapping_add(i as u32));
     Piece {
-        unit: own,
+        unit: Unit { psn, ..unit },
         indicator: indicator_at(n, i),
         counter: counter_at(n, i),
         len,

@@ -4,16 +4,18 @@ use Rattle.packer.specs.Pieces.{count_by, count_of, max_pieces}
 use Rattle.packer.proofs.Pieces.{Bounded, count_bounded}
 use Rattle.packer.proofs.Refusals.{small, size-zero, size_large, kind_large, too_many, output-short, cid_large, accepted}
 use Rattle.packer.proofs.pack.pack.Goals as goal
+use Rattle.packer.proofs.pack.pack.Goals.{then-m-eq0-via-then-m-eq0, then-m-eq0-via-else-m-eq0+then-m-gt1400}
 
 pub returns-then-m-eq0 : goal.returns-then-m-eq0
-returns-then-m-eq0 c = sym (size-zero _ _ _ _ _ _ c.if-m-eq0.true)
+returns-then-m-eq0 c =
+    elim c.then-m-eq0.branch [
+      | then-m-eq0-via-then-m-eq0 w ↦ sym (size-zero _ _ _ _ _ _ w.if-m-eq0.true)
+      | then-m-eq0-via-else-m-eq0+then-m-gt1400 w ↦ sym (size_large _ _ _ _ _ _ w.if-m-eq0.false w.if-m-gt1400.true)
+    ]
 
-pub returns-then-m-gt1400 : goal.returns-then-m-gt1400
-returns-then-m-gt1400 c = sym (size_large _ _ _ _ _ _ c.if-m-eq0.false c.if-m-gt1400.true)
-
-pub returns-then-kind-gt4 : goal.returns-then-kind-gt4
-returns-then-kind-gt4 c =
-    sym (kind_large _ _ _ _ _ _ c.if-m-eq0.false c.if-m-gt1400.false c.if-kind-gt4.true)
+pub returns-then-unit-gt4 : goal.returns-then-unit-gt4
+returns-then-unit-gt4 c =
+    sym (kind_large _ _ _ _ _ _ c.if-m-eq0.false c.if-m-gt1400.false c.if-unit-gt4.true)
 
 -- what was counted is all of them, or both are too many
 counts : (m len n : ℕ) → (m ≡ 0 → ⊥) → n ≡ count_by max_pieces m len → Bounded max_pieces n (count_of m len)
@@ -26,7 +28,7 @@ pub returns-then-n-gt-MAX_PIECES : goal.returns-then-n-gt-MAX_PIECES
 returns-then-n-gt-MAX_PIECES c =
     let a = c.args in
     let h = (counts a.m (length a.bytes.now) _ c.if-m-eq0.false c.count-n.ensures).1 c.if-n-gt-MAX_PIECES.true in
-    sym (too_many _ _ _ _ _ _ c.if-m-eq0.false c.if-m-gt1400.false c.if-kind-gt4.false h)
+    sym (too_many _ _ _ _ _ _ c.if-m-eq0.false c.if-m-gt1400.false c.if-unit-gt4.false h)
 
 -- what is written is small
 few : (m len n head : ℕ) → (m ≡ 0 → ⊥) → m ≤ 1400 → n ≡ count_by max_pieces m len → n ≤ max_pieces → head ≤ 41
@@ -53,7 +55,7 @@ returns-then-output-len c =
     let e = counted a.m (length a.bytes.now) _ c.if-m-eq0.false c.count-n.ensures c.if-n-gt-MAX_PIECES.false in
     let n = rw e at c.if-n-gt-MAX_PIECES.false in
     let h = rw (e, c.head_bytes.ensures.0) at c.if-output-len.true in
-    sym (output-short _ _ _ _ _ _ c.if-m-eq0.false c.if-m-gt1400.false c.if-kind-gt4.false n h)
+    sym (output-short _ _ _ _ _ _ c.if-m-eq0.false c.if-m-gt1400.false c.if-unit-gt4.false n h)
 
 pub returns-then-cid-gt4095 : goal.returns-then-cid-gt4095
 returns-then-cid-gt4095 c =
@@ -61,7 +63,7 @@ returns-then-cid-gt4095 c =
     let e = counted a.m (length a.bytes.now) _ c.if-m-eq0.false c.count-n.ensures c.if-n-gt-MAX_PIECES.false in
     let n = rw e at c.if-n-gt-MAX_PIECES.false in
     let l = rw (e, c.head_bytes.ensures.0) at c.if-output-len.false in
-    sym (cid_large _ _ _ _ _ _ c.if-m-eq0.false c.if-m-gt1400.false c.if-kind-gt4.false n l c.if-cid-gt4095.true)
+    sym (cid_large _ _ _ _ _ _ c.if-m-eq0.false c.if-m-gt1400.false c.if-unit-gt4.false n l c.if-cid-gt4095.true)
 
 pub write_run-requires : goal.write_run-requires
 write_run-requires c =
@@ -70,7 +72,7 @@ write_run-requires c =
     record {
       positive = omega (arith, c.if-m-eq0.false);
       small = c.if-m-gt1400.false;
-      kinds = c.if-kind-gt4.false;
+      kinds = c.if-unit-gt4.false;
       cids = omega (arith, c.if-cid-gt4095.false);
       counted = e;
       few = c.if-n-gt-MAX_PIECES.false;
@@ -85,4 +87,4 @@ returns c =
     let n = rw e at c.if-n-gt-MAX_PIECES.false in
     let l = rw (e, o) at c.if-output-len.false in
     rw (c.write_run.ensures, o, e)
-    (sym (accepted _ _ _ _ _ _ c.if-m-eq0.false c.if-m-gt1400.false c.if-kind-gt4.false n l c.if-cid-gt4095.false))
+    (sym (accepted _ _ _ _ _ _ c.if-m-eq0.false c.if-m-gt1400.false c.if-unit-gt4.false n l c.if-cid-gt4095.false))

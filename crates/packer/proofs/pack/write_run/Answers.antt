@@ -1,4 +1,4 @@
-use Rattle.std.proofs.Common.{◌≡◌, ◌+◌, [], length, refl, ◌∙◌, arith, rules}
+use Rattle.std.proofs.Common.{◌≡◌, ◌+◌, [], length, refl, ◌∙◌, arith}
 use Rattle.wire.proofs.MemoryLaws.{pasted-zero}
 use Rattle.packer.specs.Packer.{packed}
 use Rattle.packer.specs.Writing.{planned}
@@ -10,18 +10,14 @@ pub loop-i-init : goal.loop-i-init
 unfolding packed
 loop-i-init c =
     let a = c.args in
-    (search rules, refl, omega (arith, left-fits a.plan a.bytes.now (length a.output.now) c.requires), refl)
+    record { long = refl; room = omega (arith, left-fits a.plan a.bytes.now (length a.output.now) c.requires); whole = refl }
 
 pub write_piece-at-requires : goal.write_piece-at-requires
 write_piece-at-requires c =
     let a = c.args in
     let l = c.loop-i in
-    let h = c.loop-i-test.true in
-    let n = left-length a.plan a.bytes.now (length a.output.now) c.requires l.i h in
-    record {
-      planned = rw l.invariant.1 c.requires;
-      i_lt_n = (h, omega (arith, n, l.invariant.1, l.invariant.2));
-    }
+    let n = left-length a.plan a.bytes.now (length a.output.now) c.requires l.i (omega arith) in
+    record { planned = rw l.invariant.long c.requires; i_lt_n = (omega arith, omega arith) }
 
 pub loop-i-preserved : goal.loop-i-preserved
 loop-i-preserved c =
@@ -29,18 +25,16 @@ loop-i-preserved c =
     let p = a.plan in
     let s = a.bytes.now in
     let l = c.loop-i in
-    let h = c.loop-i-test.true in
-    let n = left-length p s (length a.output.now) c.requires l.i h in
-    let t = left_step p s (length a.output.now) c.requires l.i h in
+    let n = left-length p s (length a.output.now) c.requires l.i (omega arith) in
+    let t = left_step p s (length a.output.now) c.requires l.i (omega arith) in
     let e = c.write_piece-at.ensures in
-    let r = l.invariant in (
-      omega (arith, h),
-      omega (arith, c.write_piece-at.auto, r.1),
-      omega (arith, n, e.ends, r.2),
-      turn l.output _ (planned p l.i s) (left p s (l.i + 1)) (left p s l.i) l.at _ t e.writes e.ends
-          (omega (arith, r.1, r.2))
-          ∙ r.3,
-    )
+    let r = l.invariant in
+    record {
+      long = omega (arith, c.write_piece-at.auto);
+      room = omega (arith, n, e.ends);
+      whole =
+          turn l.output _ (planned p l.i s) (left p s (l.i + 1)) (left p s l.i) l.at _ t e.writes e.ends (omega arith) ∙ r.whole;
+    }
 
 pub returns : goal.returns
 returns c =
@@ -48,6 +42,6 @@ returns c =
     let p = a.plan in
     let s = a.bytes.now in
     let l = c.loop-i in
-    let i : l.i ≡ p.n = omega (arith, c.loop-i-test.false, l.invariant.0) in
+    let i : l.i ≡ p.n = omega arith in
     let e : left p s l.i ≡ [] = rw i (left-none p s (length a.output.now) c.requires) in
-    pasted-zero l.output l.at [] ∙ rw (e, rest_all p.unit p.cid p.sn p.m s) at l.invariant.3
+    pasted-zero l.output l.at [] ∙ rw (e, rest_all p.unit p.cid p.sn p.m s) at l.invariant.whole

@@ -1,4 +1,4 @@
--- Why refusal meets its contract: the cases of its definition; the run fills no slot s if s is not below the quotient.
+-- Why test meets its contract: the cases of its definition; the run fills no slot s if s is not below the quotient.
 use Prim.Native.Nat.{ℕ, ◌+◌, ◌*◌, ◌/◌, ◌<◌, ◌≤◌}
 use mathlib.Core.Path.{◌≡◌, sym, ◌∙◌}
 use mathlib.Core.Bool.{false}
@@ -7,7 +7,7 @@ use native.Mathlib.Omega.{arith}
 use Rattle.cutter.specs.Slot.{unlisted}
 use Rattle.cutter.proofs.SlotLaws.{refused-run, refused-length, refused-past, refused-output, accepts}
 use Rattle.cutter.proofs.Table.{listed_bounds}
-use Rattle.cutter.proofs.slot.refusal.Goals as goal
+use Rattle.cutter.proofs.slot.test.Goals as goal
 
 pub returns-then-not-is_whole : goal.returns-then-not-is_whole
 returns-then-not-is_whole c = sym (refused-run _ _ _ _ (sym c.is_whole.ensures ∙ c.if-not-is_whole.true))
