@@ -3,13 +3,11 @@ use Prim.Native.Nat.{ℕ, ◌+◌, ◌-◌, ◌<◌, ◌≤◌}
 use mathlib.Core.Path.{◌≡◌, refl, sym, ◌∙◌}
 use mathlib.Core.Bool.{Bool, true, false, cond}
 use mathlib.Core.List.{List, []}
-use native.Mathlib.Nat.{sub-zero}
 use native.Mathlib.Omega.{arith}
 use lib.ListN.{length, take, drop, length-take, length-drop}
 use lib.Dec.{eqb, ltb, leb}
 use borrow.Author.Tests.{eqb-true, eqb-false, ltb-true, ltb-false}
-use Rattle.wire.specs.Memory.{part_of, pasted}
-use Rattle.wire.proofs.MemoryLaws.{pasted-take}
+use Rattle.wire.specs.Memory.{part_of}
 use Rattle.tlv.specs.declared.note.SlotNote.TheVariants.{Misfit, TooLong}
 use Rattle.tlv.specs.declared.held.Continuation.TheVariants.{Dropped, Ends, GoesOn}
 use Rattle.tlv.specs.Slot.{none, sound}
@@ -31,11 +29,6 @@ part_room s start len = go (leb start (length s)) (leb len (length s - start))
     go true true = simp (length-take, length-drop) (omega arith)
     go true false = omega arith
     go false b = omega arith
-
--- the first k bytes, put in by themselves
-pub pasted-part : (m : List ℕ) (at : ℕ) (d : List ℕ) (k : ℕ) → k ≤ length d
-    → pasted m at (take (k - 0) d) (length (take (k - 0) d)) ≡ pasted m at d k
-pasted-part m at d k h = rw sub-zero (pasted-take m at d k h)
 
 -- what it tells that a held packet ends at t, or at the slot's end, or goes on past it
 within-ends : (x t e : ℕ) → end_within x t ≡ Ends e → (x ≡ e) × (x ≡ t)

@@ -1,7 +1,5 @@
 // A slot in packet memory: the held packet goes on or is dropped, and next reads from the top pointer.
 ghost use Rattle.std.specs.Prelude.{◌≡◌, ◌+◌, ◌≤◌, ◌<◌, length, true};
-ghost use Rattle.tlv.specs.declared.note.SlotNote.TheVariants.{Unsound};
-ghost use Rattle.tlv.specs.Notes.{number_of};
 ghost use Rattle.tlv.specs.Slot.{sound};
 ghost use Rattle.tlv.specs.Held.{continuation_of};
 ghost use Rattle.intake.specs.Slot.{packet_memory, searching, holding, noted, cursor_from, reading_from};
@@ -10,7 +8,7 @@ ghost use Rattle.intake.specs.Early.{free_part};
 
 use crate::held::{Cursor, Held, Intake};
 use tlv::held::Continuation;
-use tlv::note::{SlotNote, number};
+use tlv::note::SlotNote;
 use tmcc::layout::Pointers;
 
 // Where the slot stands in packet memory, behind the longest held packet.
@@ -20,6 +18,7 @@ pub const SLOT_AREA: usize = 16384;
 pub const MAX_SLOT: usize = 5049;
 
 // A cursor over the packets from the top pointer of a slot of `len` bytes, after a note and a completed packet.
+#[tactic(auto, unfolding(crate::specs::Slot::cursor_from))]
 fn cursor_from(note: u8, packet: usize, top: u16, len: usize) -> Cursor
     requires { len ≤ 5049 }
     ensures { result ≡ cursor_from note packet top len }
@@ -28,9 +27,7 @@ fn cursor_from(note: u8, packet: usize, top: u16, len: usize) -> Cursor
         return Cursor {
             note,
             packet,
-            reading: false,
-            at: 0,
-            end: 0,
+            ..Cursor::default()
         };
     }
     Cursor {
@@ -43,44 +40,34 @@ fn cursor_from(note: u8, packet: usize, top: u16, len: usize) -> Cursor
 }
 
 // The packets from the top pointer are read; nothing is held until their tail is.
-pub(crate) fn read_from(note: u8, packet: usize, top: u16, len: usize) -> Intake
+fn read_from(note: u8, packet: usize, top: u16, len: usize) -> Intake
     requires { len ≤ 5049 }
     ensures { result ≡ reading_from note packet top len }
 {
-    let held = Held {
-        on: false,
-        start: 0,
-        len: 0,
-    };
-    let cursor = cursor_from(note, packet, top, len);
-    Intake { held, cursor }
+    Intake {
+        held: Held::default(),
+        cursor: cursor_from(note, packet, top, len),
+    }
 }
 
-// An unsound slot: its note, and searching.
-pub(crate) fn mark_unsound() -> Intake
-    ensures { result ≡ record { held = searching; cursor = noted (number_of Unsound) } }
+// Searching, and nothing to read but a note; 0 for none.
+fn searching(note: u8) -> Intake
+    ensures { result ≡ record { held = searching; cursor = noted note } }
 {
-    let held = Held {
-        on: false,
-        start: 0,
-        len: 0,
-    };
-    let cursor = Cursor {
-        note: number(SlotNote::Unsound),
-        packet: 0,
-        reading: false,
-        at: 0,
-        end: 0,
-    };
-    Intake { held, cursor }
+    Intake {
+        held: Held::default(),
+        cursor: Cursor {
+            note,
+            ..Cursor::default()
+        },
+    }
 }
 
 // How many bytes are held; none where they lie outside packet memory.
-pub(crate) fn held_len(held: Held, packet: &[u8]) -> usize
+fn held_len(held: Held, packet: &[u8]) -> usize
     ensures { result ≡ held_len held packet.now }
 {
-    let s = wire::memory::part(packet, held.start, held.len);
-    s.len()
+    wire::memory::part(packet, held.start, held.len).len()
 }
 
 // The held bytes come to stand from byte 0.
@@ -101,7 +88,7 @@ fn continue_packet(held: Held, packet: &mut [u8], bytes: &[u8], k: usize)
     ensures { packet.new ≡ continued_mem held packet.old bytes.now k }
 {
     let n = move_held(held, packet);
-    wire::memory::copy_at(packet, n, &bytes[0..k]);
+    wire::memory::copy_at(packet, n, &bytes[..k]);
 }
 
 // What becomes of the held packet.
@@ -113,38 +100,34 @@ fn resume(held: Held, packet: &[u8], bytes: &[u8], t: Pointers) -> Continuation
 }
 
 // The held packet ends in the slot; the packets from the top pointer follow it.
-pub(crate) fn end_packet(n: usize, end: usize, top: u16, len: usize) -> Intake
+#[tactic(auto, unfolding(crate::specs::Slot::resumed_as))]
+fn end_packet(n: usize, end: usize, top: u16, len: usize) -> Intake
     requires { (n + end < 18446744073709551616) × (len ≤ 5049) }
     ensures { result ≡ resumed_as (Continuation.Ends end) n top len }
 {
     let packet = if n == 0 { 0 } else { n + end };
-    let held = Held {
-        on: top == tlv::slot::NONE,
-        start: 0,
-        len: 0,
-    };
-    let cursor = cursor_from(0, packet, top, len);
-    Intake { held, cursor }
+    Intake {
+        held: Held {
+            on: top == tlv::slot::NONE,
+            ..Held::default()
+        },
+        cursor: cursor_from(0, packet, top, len),
+    }
 }
 
 // The held packet goes on past the slot.
-pub(crate) fn extend_packet(n: usize, len: usize) -> Intake
+fn extend_packet(n: usize, len: usize) -> Intake
     requires { n + len < 18446744073709551616 }
     ensures { result ≡ record { held = holding 0 (n + len); cursor = noted 0 } }
 {
-    let held = Held {
-        on: true,
-        start: 0,
-        len: n + len,
-    };
-    let cursor = Cursor {
-        note: 0,
-        packet: 0,
-        reading: false,
-        at: 0,
-        end: 0,
-    };
-    Intake { held, cursor }
+    Intake {
+        held: Held {
+            on: true,
+            start: 0,
+            len: n + len,
+        },
+        cursor: Cursor::default(),
+    }
 }
 
 // A sound slot comes to held bytes.
@@ -154,9 +137,8 @@ fn resume_slot(held: Held, packet: &mut [u8], bytes: &[u8], t: Pointers) -> Inta
 {
     let len = bytes.len();
     let n = held_len(held, packet);
-    let c = resume(held, packet, bytes, t);
-    match c {
-        Continuation::Dropped(note) => read_from(number(note), 0, t.0, len),
+    match resume(held, packet, bytes, t) {
+        Continuation::Dropped(note) => read_from(u8::from(note), 0, t.0, len),
         Continuation::Ends(end) => {
             continue_packet(held, packet, bytes, end);
             end_packet(n, end, t.0, len)
@@ -169,23 +151,18 @@ fn resume_slot(held: Held, packet: &mut [u8], bytes: &[u8], t: Pointers) -> Inta
 }
 
 // How many of the first `n` bytes of the slot's place no held byte stands in; none where the held bytes are not in that place alone.
+#[tactic(auto, unfolding(crate::specs::Early::free_part))]
 fn free_part(held: Held, n: usize) -> usize
     ensures { result ≡ free_part held n }
 {
     if !held.on {
         return n;
     }
-    if held.start < SLOT_AREA {
-        return 0;
-    }
-    if SLOT_AREA < held.len {
+    if held.start < SLOT_AREA || SLOT_AREA < held.len {
         return 0;
     }
     let k = held.start - SLOT_AREA;
-    if n < k {
-        return n;
-    }
-    k
+    n.min(k)
 }
 
 // What a slot does, before it is copied.
@@ -194,7 +171,7 @@ fn settle(held: Held, packet: &mut [u8], bytes: &[u8], t: Pointers) -> Intake
     ensures { (result, packet.new) ≡ settled_of held packet.old bytes.now t }
 {
     if !tlv::slot::is_sound(bytes, t.0, t.1) {
-        return mark_unsound();
+        return searching(u8::from(SlotNote::Unsound));
     }
     if held.on {
         return resume_slot(held, packet, bytes, t);
@@ -207,30 +184,19 @@ pub fn take(held: Held, packet: &mut [u8], bytes: &[u8], t: Pointers) -> Intake
     requires { (packet_memory ≤ length packet.old) × (length bytes.now ≤ 5049) }
     ensures { (result, packet.new) ≡ intake_of held packet.old bytes.now t }
 {
-    let k = free_part(held, bytes.len());
-    wire::memory::copy_at(packet, SLOT_AREA, &bytes[0..k]);
+    let (early, late) = bytes.split_at(free_part(held, bytes.len()));
+    wire::memory::copy_at(packet, SLOT_AREA, early);
     let taken = settle(held, packet, bytes, t);
-    wire::memory::copy_at(packet, SLOT_AREA + k, &bytes[k..]);
+    wire::memory::copy_at(packet, SLOT_AREA + early.len(), late);
     taken
 }
 
 // A lost one: searching, with a note if it wasn't.
+#[tactic(auto, unfolding(crate::specs::Slot::lost_of))]
 pub fn lose(before: Held) -> Intake
     ensures { result ≡ lost_of before }
 {
-    let lost = number(SlotNote::Lost);
+    let lost = u8::from(SlotNote::Lost);
     let note = if before.on { lost } else { 0 };
-    let held = Held {
-        on: false,
-        start: 0,
-        len: 0,
-    };
-    let cursor = Cursor {
-        note,
-        packet: 0,
-        reading: false,
-        at: 0,
-        end: 0,
-    };
-    Intake { held, cursor }
+    searching(note)
 }

@@ -1,11 +1,11 @@
 -- Laws of specs/Queue.antt.
-use Rattle.std.specs.Prelude.{ℕ, ◌-◌, ◌≡◌, true, false, List, eqb}
+use Rattle.std.specs.Prelude.{ℕ, ◌≡◌, true, false, List, eqb}
 use Rattle.std.proofs.Common.{◌∙◌, ap, eq-eqb, ne_eqb}
 use Rattle.wire.proofs.Choice.{chosen, chosen-not}
 use Rattle.mmtp.specs.declared.unit.Step.{Step}
 use Rattle.reassembly.specs.declared.note.JoinNote.TheVariants.{AboveLimit}
 use Rattle.reassembly.specs.Notes.{number_of}
-use Rattle.queue.specs.declared.event.Event.TheVariants.{Nothing, Note, Unit}
+use Rattle.queue.specs.Event.{Nothing, Note, Unit}
 use Rattle.queue.specs.declared.event.Given.{Given}
 use Rattle.queue.specs.Waiting.{Give, Nothing as NoUnit, One, Many, Aggregate, Queue}
 use Rattle.queue.specs.Queue.{giving, many_by, next_unit, give_by, event_taken}

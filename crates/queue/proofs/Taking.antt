@@ -11,7 +11,7 @@ use Rattle.mmtp.specs.declared.unit.Step.TheVariants.{Unit as UnitAt, Malformed,
 use Rattle.reassembly.specs.declared.note.JoinNote.TheVariants.{AboveLimit}
 use Rattle.reassembly.specs.Notes.{number_of}
 use Rattle.words.specs.Channel.{read_unit}
-use Rattle.queue.specs.declared.event.Event.TheVariants.{Nothing, Note, Unit}
+use Rattle.queue.specs.Event.{Nothing, Note, Unit}
 use Rattle.queue.specs.Waiting.{Nothing as NoUnit, One, Many, Aggregate, Queue}
 use Rattle.queue.specs.Located.{whole_given}
 use Rattle.queue.specs.Queue.{giving, next_unit}

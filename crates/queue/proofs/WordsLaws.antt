@@ -5,19 +5,23 @@ use Rattle.std.proofs.Math.Path.{refl}
 use mathlib.Core.List.{List, [], ◌∷◌, ◌++◌}
 use Rattle.std.proofs.Common.{mod-eq_of_lt, add-zero}
 use native.Mathlib.Omega.{arith}
+use denote.Enum.Declared.{tag_of}
 use Rattle.wire.specs.Words.{Holds, Put, Same, flag_of, flag_word}
 use Rattle.wire.proofs.WordsLaws.{flag-back, same_first, put_on, zeros_hold, holds-put, holds-front, holds-behind}
 use Rattle.mmtp.specs.declared.packet.Packet.{Packet}
 use Rattle.mmtp.specs.declared.payload.Indicator.{Indicator}
+use Rattle.mmtp.specs.contracts.payload.Indicator.{the_type as indicator_type}
 use Rattle.mmtp.specs.declared.payload.Indicator.TheVariants.{Whole, First, Middle, Last}
+use Rattle.mmtp.specs.Payload.{indicator_of}
 use Rattle.reassembly.specs.declared.unit.Unit.{Unit}
 use Rattle.words.specs.Channel.{read_unit, unit_words, field_words, SizedUnit}
 use Rattle.words.proofs.ChannelLaws.{length-unit, unit-same, unit-put}
 use Rattle.queue.specs.declared.event.Memory.{Memory}
+use Rattle.queue.specs.contracts.event.Memory.{the_type as memory_type}
 use Rattle.queue.specs.declared.event.Memory.TheVariants.{Packet as PacketMemory, Collecting}
 use Rattle.queue.specs.Waiting.{Give, Nothing, One, Many, Queue}
 use Rattle.queue.specs.Queue.{empty, giving}
-use Rattle.queue.specs.Words.{memory_at, memory_word, indicator_at, indicator_word, read_packet, packet_words, read_give, give_words, read_queue, queue_words, SizedPacket, SizedGive, NotesStored, GiveStored, CleanQueue, SizedQueue}
+use Rattle.queue.specs.Words.{memory_at, memory_word, indicator_word, read_packet, packet_words, read_give, give_words, read_queue, queue_words, SizedPacket, SizedGive, NotesStored, GiveStored, CleanQueue, SizedQueue}
 
 -- Laws.
 pub memory-back : (m : Memory) → memory_at (memory_word m) ≡ m
@@ -25,12 +29,25 @@ unfolding memory_at memory_word
 memory-back PacketMemory = refl
 memory-back Collecting = refl
 
-pub indicator_back : (i : Indicator) → indicator_at (indicator_word i) ≡ i
-unfolding indicator_at indicator_word
+pub indicator_back : (i : Indicator) → indicator_of (indicator_word i) ≡ i
+unfolding indicator_of indicator_word
 indicator_back Whole = refl
 indicator_back First = refl
 indicator_back Middle = refl
 indicator_back Last = refl
+
+-- the numbers as the code takes them
+pub memory-number : (m : Memory) → tag_of memory_type m ≡ memory_word m
+unfolding memory_word
+memory-number PacketMemory = refl
+memory-number Collecting = refl
+
+pub indicator-number : (i : Indicator) → tag_of indicator_type i ≡ indicator_word i
+unfolding indicator_word
+indicator-number Whole = refl
+indicator-number First = refl
+indicator-number Middle = refl
+indicator-number Last = refl
 
 pub length-packet : (k : Packet) → length (packet_words k) ≡ 10
 unfolding packet_words

@@ -6,7 +6,7 @@ use Rattle.mmtp.specs.declared.unit.Step.TheVariants.{Unit as UnitAt, Malformed,
 use Rattle.mmtp.specs.Unit.{unit_at}
 use Rattle.reassembly.specs.declared.note.JoinNote.TheVariants.{AboveLimit}
 use Rattle.reassembly.specs.Notes.{number_of}
-use Rattle.queue.specs.declared.event.Event.TheVariants.{Nothing, Note, Unit}
+use Rattle.queue.specs.Event.{Nothing, Note, Unit}
 use Rattle.queue.specs.Waiting.{Give, Nothing as NoUnit, One, Many, Aggregate, Queue, Taken}
 use Rattle.queue.specs.Located.{whole_given}
 

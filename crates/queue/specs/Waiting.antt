@@ -1,7 +1,7 @@
 -- What next has yet to give of a packet: its note, note 64, its units.
 use Rattle.std.specs.Prelude.{ℕ, Bool}
 use Rattle.mmtp.specs.declared.packet.Packet.{Packet}
-use Rattle.queue.specs.declared.event.Event.{Event}
+use Rattle.queue.specs.Event.{Event}
 use Rattle.queue.specs.declared.event.Given.{Given}
 
 -- an aggregate whose units are being given: its packet, where that stands in packet memory, and the next unit's place in it

@@ -6,24 +6,21 @@ use Rattle.wire.specs.Words.{Holds, Put, Within, flag_of, flag_word}
 use Rattle.mmtp.specs.declared.packet.Packet.{Packet}
 use Rattle.mmtp.specs.declared.payload.Indicator.{Indicator}
 use Rattle.mmtp.specs.declared.payload.Indicator.TheVariants.{Whole, First, Middle, Last}
-use Rattle.reassembly.specs.declared.unit.Unit.{Unit}
+use Rattle.mmtp.specs.Payload.{indicator_of}
 use Rattle.words.specs.Channel.{read_unit, unit_words, SizedUnit}
-use Rattle.queue.specs.declared.event.Event.{Event}
+use Rattle.queue.specs.Event.{Event}
 use Rattle.queue.specs.declared.event.Memory.{Memory}
 use Rattle.queue.specs.declared.event.Memory.TheVariants.{Packet as PacketMemory, Collecting}
 use Rattle.queue.specs.Waiting.{Give, Nothing, One, Many, Queue}
 use Rattle.queue.specs.Queue.{event_taken}
 
--- a memory and an indicator of a number
+-- a memory of a number, and the numbers of memories and indicators
 unfoldable pub memory_at : ℕ → Memory
 memory_at n = cond (eqb n 0) PacketMemory Collecting
 
 unfoldable pub memory_word : Memory → ℕ
 memory_word PacketMemory = 0
 memory_word Collecting = 1
-
-unfoldable pub indicator_at : ℕ → Indicator
-indicator_at n = cond (eqb n 0) Whole (cond (eqb n 1) First (cond (eqb n 2) Middle Last))
 
 unfoldable pub indicator_word : Indicator → ℕ
 indicator_word Whole = 0
@@ -40,7 +37,7 @@ read_packet t i =
       psn = record { 0 = get_or t (i + 2) 0 % 4294967296 };
       payload = record {
         kind = get_or t (i + 3) 0 % 256;
-        indicator = indicator_at (get_or t (i + 4) 0);
+        indicator = indicator_of (get_or t (i + 4) 0);
         counter = get_or t (i + 5) 0 % 256;
         mpu = get_or t (i + 6) 0 % 4294967296;
         aggregated = flag_of (get_or t (i + 7) 0);

@@ -1,11 +1,27 @@
 // What next gives: notes and units, and where a unit's bytes stand.
 use reassembly::unit::Unit;
 
-// A memory that the caller lends.
+// A memory that the caller lends. Its number is its place here, 0 or 1.
 #[derive(Clone, Copy)]
 pub enum Memory {
     Packet,
     Collecting,
+}
+
+// The memory of a number: 0 packet memory, all others collecting memory.
+impl From<u64> for Memory {
+    ghost use Rattle.std.specs.Prelude.{◌≡◌};
+    ghost use Rattle.queue.specs.Words.{memory_at};
+
+    ghost from_gives = { λ n m. m ≡ memory_at n };
+
+    #[tactic(auto, unfolding(crate::specs::Words::memory_at))]
+    fn from(n: u64) -> Memory {
+        match n {
+            0 => Memory::Packet,
+            _ => Memory::Collecting,
+        }
+    }
 }
 
 // Where a unit's bytes stand.
@@ -23,13 +39,10 @@ pub struct Given {
     pub place: Place,
 }
 
-// What next answers.
+// What next gives.
 #[derive(Clone, Copy)]
 pub enum Event {
-    // Nothing waits.
-    Nothing,
-    // A note's number, and its packet_id; 0 for notes up to 51, which have none.
+    // A note's number, and its packet_id; 0 for notes up to 51, which have none. A number, since any may stand in the words (`state_in`).
     Note(u8, u16),
     Unit(Given),
-    Refused(u8),
 }

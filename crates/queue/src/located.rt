@@ -19,13 +19,12 @@ pub fn whole(l: Located, u: DataUnit) -> Given
     requires { (u.start ≤ u.end) × (l.start + u.start < 18446744073709551616) }
     ensures { result ≡ whole_given l u }
 {
-    let packet = l.packet;
-    let fields = u.fields;
-    let unit = reassembly::unit::of_packet(packet, fields);
-    let place = Place {
-        memory: Memory::Packet,
-        start: l.start + u.start,
-        len: u.end - u.start,
-    };
-    Given { unit, place }
+    Given {
+        unit: reassembly::unit::of_packet(l.packet, u.fields),
+        place: Place {
+            memory: Memory::Packet,
+            start: l.start + u.start,
+            len: u.end - u.start,
+        },
+    }
 }

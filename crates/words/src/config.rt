@@ -9,6 +9,7 @@ use watch::rising::keep;
 pub const LIST: usize = 4;
 
 // The context id of the flow.
+#[tactic(auto, unfolding(crate::specs::Config::read_config))]
 pub fn load_cid(t: &[u64], i: usize) -> u16
     requires { i + 20 ≤ length t.now }
     ensures { result ≡ (read_config t.now i).cid }
@@ -24,6 +25,7 @@ pub fn load_count(t: &[u64], i: usize) -> u64
     t[i + 2]
 }
 
+#[tactic(auto, unfolding(crate::specs::Config::read_config))]
 pub fn load_rules(t: &[u64], i: usize) -> Rules
     requires { i + 20 ≤ length t.now }
     ensures { result ≡ (read_config t.now i).rules }
@@ -37,11 +39,9 @@ pub fn store_config(t: &mut [u64], i: usize, config: Config)
     requires { i + 20 ≤ length t.old }
     ensures { ConfigStored t.old t.new i config }
 {
-    let watch = config.watch;
-    let rules = config.rules;
     t[i] = config.stream as u64;
     t[i + 1] = config.cid as u64;
-    t[i + 2] = watch.n as u64;
-    t[i + 3] = rules.limit as u64;
-    keep(t, i + LIST, watch);
+    t[i + 2] = config.watch.n as u64;
+    t[i + 3] = config.rules.limit as u64;
+    keep(t, i + LIST, config.watch);
 }

@@ -15,57 +15,49 @@ ends : (c : In-Ends)
     let k = c.in-Ends.end in
     (k ≤ length a.bytes.now) × (held_len a.held a.packet.now + k ≤ length a.packet.now)
 ends c =
-    let s = c in
-    let a = s.args in
-    let r = ends-room _ _ _ _ _ s.requires.2 (sym c.resume-c.ensures ∙ c.in-Ends.is) in
-    (r.within, held_fits a.held a.packet.now a.bytes.now _ (omega (arith, s.requires.0)) r)
+    let a = c.args in
+    let r = ends-room _ _ _ _ _ c.requires.2 (sym c.resume.ensures ∙ c.in-Ends.is) in
+    (r.within, held_fits a.held a.packet.now a.bytes.now _ (omega (arith, c.requires.0)) r)
 
 goes_on : (c : In-GoesOn)
     → let a = c.args in
     let k = length a.bytes.now in
     (k ≤ length a.bytes.now) × (held_len a.held a.packet.now + k ≤ length a.packet.now)
 goes_on c =
-    let s = c in
-    let a = s.args in
-    let r = goes-on-room _ _ _ _ (sym c.resume-c.ensures ∙ c.in-GoesOn.is) in
-    (r.within, held_fits a.held a.packet.now a.bytes.now _ (omega (arith, s.requires.0)) r)
+    let a = c.args in
+    let r = goes-on-room _ _ _ _ (sym c.resume.ensures ∙ c.in-GoesOn.is) in
+    (r.within, held_fits a.held a.packet.now a.bytes.now _ (omega (arith, c.requires.0)) r)
 
 pub continue_packet-requires : goal.continue_packet-requires
 continue_packet-requires c = ends (goal.at.continue_packet-requires c).In-Ends
 
 pub end_packet-requires : goal.end_packet-requires
 end_packet-requires c =
-    let d = c in
-    let s = d in
-    (omega (arith, s.held_len-n.ensures, (ends (goal.at.end_packet-requires c).In-Ends).1), s.requires.1)
+    (omega (arith, c.held_len-n.ensures, (ends (goal.at.end_packet-requires c).In-Ends).1), c.requires.1)
 
 pub continue_packet-requires-in-GoesOn : goal.continue_packet-requires-in-GoesOn
 continue_packet-requires-in-GoesOn c = goes_on (goal.at.continue_packet-requires-in-GoesOn c).In-GoesOn
 
 pub extend_packet-requires : goal.extend_packet-requires
 extend_packet-requires c =
-    let d = c in
-    omega (arith, d.held_len-n.ensures, (goes_on (goal.at.extend_packet-requires c).In-GoesOn).1)
+    omega (arith, c.held_len-n.ensures, (goes_on (goal.at.extend_packet-requires c).In-GoesOn).1)
 
 pub returns-in-Dropped : goal.returns-in-Dropped
 unfolding resumed_as resumed_mem
 returns-in-Dropped c =
-    let d = c in
-    let e = sym d.resume-c.ensures ∙ d.in-Dropped.is in
-    rw (c.read_from.ensures, c.number.ensures) (sym (resumed _ _ _ _ _ e))
+    let e = sym c.resume.ensures ∙ c.in-Dropped.is in
+    rw (c.read_from.ensures, c.from.ensures) (sym (resumed _ _ _ _ _ e))
 
 pub returns-in-Ends : goal.returns-in-Ends
 unfolding resumed_mem
 returns-in-Ends c =
-    let d = c in
-    let n = d.held_len-n.ensures in
-    let e = sym d.resume-c.ensures ∙ d.in-Ends.is in
+    let n = c.held_len-n.ensures in
+    let e = sym c.resume.ensures ∙ c.in-Ends.is in
     rw (c.end_packet.ensures, n, c.continue_packet.ensures) (sym (resumed _ _ _ _ _ e))
 
 pub returns-in-GoesOn : goal.returns-in-GoesOn
 unfolding resumed_as resumed_mem
 returns-in-GoesOn c =
-    let d = c in
-    let n = d.held_len-n.ensures in
-    let e = sym d.resume-c.ensures ∙ d.in-GoesOn.is in
+    let n = c.held_len-n.ensures in
+    let e = sym c.resume.ensures ∙ c.in-GoesOn.is in
     rw (c.extend_packet.ensures, n, c.continue_packet-in-GoesOn.ensures) (sym (resumed _ _ _ _ _ e))

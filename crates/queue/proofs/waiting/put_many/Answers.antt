@@ -16,48 +16,25 @@ use Rattle.queue.proofs.waiting.put_many.Goals.{After-store_packet}
 size : (d : After-store_packet) → length d.store_packet.new.t ≡ length d.args.t.now
 size d = d.store_packet.ensures.put.size ∙ simp length-set
 
-pub store_packet-requires : goal.store_packet-requires
-store_packet-requires c = simp length-set (omega arith)
-
-pub bounds-t-i-2 : goal.bounds-t-i-2
-bounds-t-i-2 c =
-    let h = size (goal.at.bounds-t-i-2 c).After-store_packet in
-    omega arith
-
-pub bounds-t-i-3 : goal.bounds-t-i-3
-bounds-t-i-3 c =
-    let h = size (goal.at.bounds-t-i-3 c).After-store_packet in
-    simp length-set (omega arith)
-
-pub bounds-t-i-4 : goal.bounds-t-i-4
-bounds-t-i-4 c =
-    let h = size (goal.at.bounds-t-i-4 c).After-store_packet in
-    simp length-set (omega arith)
-
-pub shape_of-t : goal.shape_of-t
-shape_of-t c = simp length-set (size (goal.at.shape_of-t c).After-store_packet)
-
 pub returns : goal.returns
 unfolding give_words put_from
 returns c =
-    let d = c in
-    let s = d in
-    let t = s.args.t.now in
-    let i = s.args.i in
-    let l = s.args.l in
-    let v = d.store_packet.new.t in
-    let ys = l.start ∷ l.end ∷ s.args.at ∷ [] in
+    let t = c.args.t.now in
+    let i = c.args.i in
+    let l = c.args.l in
+    let v = c.store_packet.new.t in
+    let ys = l.start ∷ l.end ∷ c.args.at ∷ [] in
     let e : i + 3 + 1 ≡ i + 4 = omega arith in
     let e₀ : i + 3 + 11 ≡ i + 14 = omega arith in
     let e₁ : i + 14 + 1 ≡ i + 15 = omega arith in
     let e₂ : i + 14 + 2 ≡ i + 16 = omega arith in
-    let z : i + 14 + 3 ≤ length v = omega (arith, s.requires, size (goal.at.returns c).After-store_packet) in
+    let z : i + 14 + 3 ≤ length v = omega (arith, c.requires, size (goal.at.returns c).After-store_packet) in
     record {
       put =
           (put_on t v _ (i + 3) 11 3 14 ((2 ∷ []) ++ packet_words l.packet) ys (rw (length-packet l.packet)) refl
           (put_on t (set t (i + 3) 2) v (i + 3) 1 10 11 (2 ∷ []) (packet_words l.packet) refl refl
-          (rw (add-zero (i + 3)) at (stores t (i + 3) 1 (2 ∷ []) refl (omega (arith, s.requires))))
-          (rw e d.store_packet.ensures.put))
+          (rw (add-zero (i + 3)) at (stores t (i + 3) 1 (2 ∷ []) refl (omega (arith, c.requires))))
+          (rw e c.store_packet.ensures.put))
           (rw e₀ (rw (add-zero (i + 14), e₁, e₂) at (stores v (i + 14) 3 ys refl z))));
-      sized = d.store_packet.ensures.sized;
+      sized = c.store_packet.ensures.sized;
     }

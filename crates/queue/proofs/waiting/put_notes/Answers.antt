@@ -3,16 +3,9 @@ use mathlib.Core.Path.{refl}
 use mathlib.Core.List.{[], ◌∷◌}
 use native.Mathlib.Nat.{add-zero}
 use native.Mathlib.Omega.{arith}
-use lib.ListN.{length-set}
 use Rattle.wire.specs.Words.{put_from, flag_word}
 use Rattle.wire.proofs.WordsLaws.{stores}
 use Rattle.queue.proofs.waiting.put_notes.Goals as goal
-
-pub bounds-t-i-2 : goal.bounds-t-i-2
-bounds-t-i-2 c = simp length-set (omega arith)
-
-pub bounds-t-i-3 : goal.bounds-t-i-3
-bounds-t-i-3 c = simp length-set (omega arith)
 
 pub returns : goal.returns
 unfolding put_from
@@ -20,7 +13,7 @@ returns c =
     let a = c.args in
     record {
       put =
-          rw c.flag.ensures
+          rw c.from.ensures
           (rw (add-zero a.i) at (stores a.t.now a.i 3 (a.note ∷ flag_word a.over ∷ a.packet_id ∷ []) refl (omega arith)));
       note-sized = omega arith;
       id-sized = omega arith;

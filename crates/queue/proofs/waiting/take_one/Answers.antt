@@ -4,8 +4,5 @@ use Rattle.queue.proofs.waiting.take_one.Goals as goal
 
 pub returns : goal.returns
 returns c p =
-    let m = c in
-    let u = m in
-    let s = u in
-    rw (m.memory_of.ensures, u.load_unit-unit.ensures)
-    (takes_one s.args.t.now s.args.i p _ s.requires c.put_none.ensures)
+    rw (c.from.ensures, c.load_unit-unit.ensures)
+    (takes_one c.args.t.now c.args.i p _ c.requires c.put_none.ensures)

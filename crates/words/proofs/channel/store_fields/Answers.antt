@@ -2,26 +2,10 @@
 use mathlib.Core.Path.{refl}
 use native.Mathlib.Nat.{add-zero}
 use native.Mathlib.Omega.{arith}
-use lib.ListN.{length-set}
 use Rattle.wire.specs.Words.{put_from}
 use Rattle.wire.proofs.WordsLaws.{stores}
 use Rattle.words.specs.Channel.{field_words}
 use Rattle.words.proofs.channel.store_fields.Goals as goal
-
-pub bounds-t-i-2 : goal.bounds-t-i-2
-bounds-t-i-2 c = simp length-set (omega arith)
-
-pub bounds-t-i-3 : goal.bounds-t-i-3
-bounds-t-i-3 c = simp length-set (omega arith)
-
-pub bounds-t-i-4 : goal.bounds-t-i-4
-bounds-t-i-4 c = simp length-set (omega arith)
-
-pub bounds-t-i-5 : goal.bounds-t-i-5
-bounds-t-i-5 c = simp length-set (omega arith)
-
-pub bounds-t-i-6 : goal.bounds-t-i-6
-bounds-t-i-6 c = simp length-set (omega arith)
 
 pub returns : goal.returns
 unfolding field_words put_from

@@ -1,9 +1,8 @@
 -- Why store_config meets its contract: four stores, and the watch list behind them.
-use mathlib.Core.Path.{refl, ◌∙◌}
+use mathlib.Core.Path.{refl}
 use mathlib.Core.List.{[], ◌∷◌}
 use native.Mathlib.Nat.{add-zero}
 use native.Mathlib.Omega.{arith}
-use lib.ListN.{length-set}
 use Rattle.wire.specs.Words.{put_from}
 use Rattle.wire.proofs.WordsLaws.{stores, put_on}
 use Rattle.words.specs.Config.{config_words}
@@ -12,34 +11,18 @@ use Rattle.watch.specs.Rising.{rising}
 use Rattle.watch.specs.Words.{rising_words}
 use Rattle.words.proofs.config.store_config.Goals as goal
 
-pub bounds-t-i-2 : goal.bounds-t-i-2
-bounds-t-i-2 c = simp length-set (omega arith)
-
-pub bounds-t-i-3 : goal.bounds-t-i-3
-bounds-t-i-3 c = simp length-set (omega arith)
-
-pub bounds-t-i-4 : goal.bounds-t-i-4
-bounds-t-i-4 c = simp length-set (omega arith)
-
-pub keep-requires : goal.keep-requires
-keep-requires c = simp length-set (omega arith)
-
-pub shape_of-t : goal.shape_of-t
-shape_of-t c = c.keep.ensures.put.size ∙ simp length-set
-
 pub returns : goal.returns
 unfolding config_words put_from
 returns c =
-    let s = c in
-    let t = s.args.t.now in
-    let i = s.args.i in
-    let g = s.args.config in
+    let t = c.args.t.now in
+    let i = c.args.i in
+    let g = c.args.config in
     let xs = g.stream ∷ g.cid ∷ g.watch.n ∷ g.rules.limit ∷ [] in
     let d = c.keep in
     let put =
     put_on t _ _ i 4 16 20 xs (rising_words (rising g.watch)) refl refl
-    (rw (add-zero i) at (stores t i 4 xs refl (omega (arith, s.requires)))) d.ensures.put in
+    (rw (add-zero i) at (stores t i 4 xs refl (omega (arith, c.requires)))) d.ensures.put in
     record {
-      read = config-back _ i g (omega (arith, s.well_formed)) (omega (arith, s.well_formed)) d.ensures.read put.holds;
+      read = config-back _ i g (omega (arith, c.well_formed)) (omega (arith, c.well_formed)) d.ensures.read put.holds;
       put = put;
     }

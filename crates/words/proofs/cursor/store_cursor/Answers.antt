@@ -2,29 +2,16 @@
 use mathlib.Core.Path.{refl}
 use native.Mathlib.Nat.{add-zero}
 use native.Mathlib.Omega.{arith}
-use lib.ListN.{length-set}
 use Rattle.wire.specs.Words.{put_from}
 use Rattle.wire.proofs.WordsLaws.{stores}
 use Rattle.words.specs.Cursor.{cursor_words}
 use Rattle.words.proofs.cursor.store_cursor.Goals as goal
-
-pub bounds-t-i-2 : goal.bounds-t-i-2
-bounds-t-i-2 c = simp length-set (omega arith)
-
-pub bounds-t-i-3 : goal.bounds-t-i-3
-bounds-t-i-3 c = simp length-set (omega arith)
-
-pub bounds-t-i-4 : goal.bounds-t-i-4
-bounds-t-i-4 c = simp length-set (omega arith)
-
-pub bounds-t-i-5 : goal.bounds-t-i-5
-bounds-t-i-5 c = simp length-set (omega arith)
 
 pub returns : goal.returns
 unfolding cursor_words put_from
 returns c =
     let a = c.args in
     record {
-      put = rw c.flag.ensures (rw (add-zero a.i) at (stores a.t.now a.i 5 (cursor_words a.c) refl (omega arith)));
+      put = rw c.from.ensures (rw (add-zero a.i) at (stores a.t.now a.i 5 (cursor_words a.c) refl (omega arith)));
       sized = omega arith;
     }

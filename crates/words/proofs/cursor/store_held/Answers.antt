@@ -2,20 +2,13 @@
 use mathlib.Core.Path.{refl}
 use native.Mathlib.Nat.{add-zero}
 use native.Mathlib.Omega.{arith}
-use lib.ListN.{length-set}
 use Rattle.wire.specs.Words.{put_from}
 use Rattle.wire.proofs.WordsLaws.{stores}
 use Rattle.words.specs.Cursor.{held_words}
 use Rattle.words.proofs.cursor.store_held.Goals as goal
 
-pub bounds-t-i-2 : goal.bounds-t-i-2
-bounds-t-i-2 c = simp length-set (omega arith)
-
-pub bounds-t-i-3 : goal.bounds-t-i-3
-bounds-t-i-3 c = simp length-set (omega arith)
-
 pub returns : goal.returns
 unfolding held_words put_from
 returns c =
     let a = c.args in
-    rw c.flag.ensures (rw (add-zero a.i) at (stores a.t.now a.i 3 (held_words a.held) refl (omega arith)))
+    rw c.from.ensures (rw (add-zero a.i) at (stores a.t.now a.i 3 (held_words a.held) refl (omega arith)))

@@ -1,8 +1,0 @@
--- Why load_cid meets its contract: one word.
-use mathlib.Core.Path.{refl}
-use Rattle.words.specs.Config.{read_config}
-use Rattle.words.proofs.config.load_cid.Goals as goal
-
-pub returns : goal.returns
-unfolding read_config
-returns c = refl
