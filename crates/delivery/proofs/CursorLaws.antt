@@ -1,5 +1,5 @@
 -- Laws of specs/Cursor.antt.
-use Rattle.std.specs.Prelude.{ℕ, ◌+◌, ◌-◌, ◌≤◌, ◌<◌, ◌≡◌, Bool, List, length, drop, eqb}
+use Rattle.std.specs.Prelude.{ℕ, ◌+◌, ◌-◌, ◌≤◌, ◌<◌, ◌≡◌, Bool, List, length, drop, eqb, Option, Some, None}
 use Rattle.std.proofs.Math.Path.{refl}
 use Rattle.std.proofs.Common.{◌∙◌, sym, true≢false, length-drop, eq-eqb, ne_eqb, eqb-true, arith}
 use Rattle.std.proofs.Math.Bool.{true, false}
@@ -7,19 +7,17 @@ use Rattle.std.proofs.lemmas.Bool.{eqb-false}
 use Rattle.wire.proofs.Choice.{chosen, chosen-not}
 use Rattle.wire.specs.Memory.{part_of}
 use Rattle.wire.proofs.MemoryLaws.{part_length}
-use Rattle.tlv.specs.declared.packet.Next.{Next}
-use Rattle.tlv.specs.declared.packet.Next.TheVariants.{Packet as PacketTo, Tail as TailAt}
 use Rattle.tlv.specs.declared.note.SlotNote.TheVariants.{TooLong}
 use Rattle.tlv.specs.Notes.{number_of}
 use Rattle.tlv.specs.Packet.{packet_at, too_long, complete, total}
-use Rattle.queue.specs.declared.event.Event.{Event as AnEvent}
-use Rattle.queue.specs.declared.event.Event.TheVariants.{Nothing, Note, Unit, Refused}
+use Rattle.queue.specs.Event.{Event as AnEvent}
+use Rattle.queue.specs.Event.{Nothing, Note, Unit, Refused}
 use Rattle.intake.specs.declared.held.Cursor.{Cursor}
 use Rattle.intake.specs.Slot.{noted}
 use Rattle.queue.specs.Waiting.{Queue}
-use Rattle.delivery.specs.declared.cursor.Found.{Found}
-use Rattle.delivery.specs.declared.cursor.Found.TheVariants.{Event, Packet, Tail, Done}
-use Rattle.delivery.specs.declared.cursor.Advanced.{Advanced}
+use Rattle.delivery.specs.Found.{Found}
+use Rattle.delivery.specs.Found.{Event, Packet, Tail, Done}
+use Rattle.delivery.specs.Found.{Advanced}
 use Rattle.queue.specs.Queue.{event_taken}
 use Rattle.tlv.proofs.CutsLaws.{complete-fits}
 use Rattle.mmtp.proofs.Cases.{chose}
@@ -86,7 +84,7 @@ module _ (cur : Cursor) (p : List ℕ) where
       ∙ chosen-not cur.reading _ _ r
 
   -- in the slot: a packet, or its tail
-  pub slot-packet : (e : ℕ) → packet_at (part_of p 0 cur.end) cur.at ≡ PacketTo e
+  pub slot-packet : (e : ℕ) → packet_at (part_of p 0 cur.end) cur.at ≡ Some e
       → slot_advanced cur p
       ≡ record {
         found = Packet cur.at e;
@@ -95,7 +93,7 @@ module _ (cur : Cursor) (p : List ℕ) where
   unfolding slot_advanced
   slot-packet e h = rw h
 
-  pub slot-tail : packet_at (part_of p 0 cur.end) cur.at ≡ TailAt
+  pub slot-tail : packet_at (part_of p 0 cur.end) cur.at ≡ None
       → slot_advanced cur p ≡ tail_advanced (part_of p 0 cur.end) cur.at cur.end
   unfolding slot_advanced
   slot-tail h = rw h
@@ -118,14 +116,14 @@ goes_on (Tail start len) = true
 goes_on Done = false
 
 -- a packet of the slot ends past its place, in the slot
-pub packet-at-within : (s : List ℕ) (at e : ℕ) → packet_at s at ≡ PacketTo e → (at < e) × (e ≤ length s)
+pub packet-at-within : (s : List ℕ) (at e : ℕ) → packet_at s at ≡ Some e → (at < e) × (e ≤ length s)
 unfolding packet_at
 packet-at-within s at e h =
-    let a = chose (complete (drop at s)) (PacketTo (at + total (drop at s))) TailAt (PacketTo e) h
+    let a = chose (complete (drop at s)) (Some (at + total (drop at s))) None (Some e) h
     (λ q. let z : ◌≡◌ {A = ℕ} 0 1 = cc in omega arith) in
     let f = complete-fits (drop at s) a.0 in
     let l = length-drop at s in
-    let r : at + total (drop at s) ≡ e = let q : PacketTo (at + total (drop at s)) ≡ PacketTo e = a.1 in cc in
+    let r : at + total (drop at s) ≡ e = let q : Some (at + total (drop at s)) ≡ Some e = a.1 in cc in
     (omega arith, omega arith)
 
 -- so the cursor has less left past it
@@ -133,13 +131,13 @@ module _ (cur : Cursor) (p : List ℕ) where
   abbrev Less : Advanced → Type 0
   Less a = goes_on a.found ≡ true → left a.cursor < left cur
 
-  slot-less : (n : Next) → packet_at (part_of p 0 cur.end) cur.at ≡ n → cur.reading ≡ true → Less (slot_advanced cur p)
+  slot-less : (n : Option ℕ) → packet_at (part_of p 0 cur.end) cur.at ≡ n → cur.reading ≡ true → Less (slot_advanced cur p)
   unfolding left
-  slot-less (PacketTo e) h r =
+  slot-less (Some e) h r =
       let w = packet-at-within (part_of p 0 cur.end) cur.at e h in
       let l = part_length p 0 cur.end in
       rw (slot-packet cur p e h, r) (λ g. omega arith)
-  slot-less TailAt h r = rw (slot-tail cur p h, r) (unfold tail_advanced in λ g. omega arith)
+  slot-less None h r = rw (slot-tail cur p h, r) (unfold tail_advanced in λ g. omega arith)
 
   reading-less : (r : Bool) → cur.note ≡ 0 → cur.packet ≡ 0 → cur.reading ≡ r → Less (advanced_of cur p)
   reading-less true n k e = rw (advanced_slot cur p n k e) (slot-less (packet_at (part_of p 0 cur.end) cur.at) refl e)

@@ -11,7 +11,7 @@ use Rattle.mmtp.specs.declared.payload.Indicator.TheVariants.{Whole}
 use Rattle.mmtp.specs.Notes.{number_of}
 use Rattle.reassembly.specs.declared.channel.Channel.{Channel}
 use Rattle.reassembly.specs.declared.config.Rules.{Rules}
-use Rattle.reassembly.specs.declared.join.Joined.{Joined}
+use Rattle.reassembly.specs.Joined.{Joined}
 use Rattle.reassembly.specs.declared.join.Piece.{Piece}
 use Rattle.reassembly.specs.Channel.{gap}
 use Rattle.reassembly.specs.Join.{join_of, acted}
@@ -19,7 +19,7 @@ use Rattle.words.specs.Config.{KeptConfig}
 use Rattle.words.specs.Channel.{phase_word, read_channel, channel_words, HeardStored, ChannelStored}
 use Rattle.words.proofs.ChannelLaws.{heard-put, heard-clean, channel-put, channel-same, channel-clean}
 use Rattle.queue.specs.declared.located.Located.{Located}
-use Rattle.delivery.specs.declared.packet.Arrived.TheVariants.{Silent, Noted, Good}
+use Rattle.delivery.specs.Arrived.{Silent, Noted, Good}
 use Rattle.wire.proofs.Choice.{by_test}
 use Rattle.queue.specs.Waiting.{Give, Nothing}
 use Rattle.delivery.specs.Packet.{arrived_at, bytes_at, unit_in, piece_from, step_of, base_of, collected, give_of, joined_of, received_of}

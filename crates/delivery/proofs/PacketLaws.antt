@@ -1,24 +1,21 @@
 -- Laws of specs/Packet.antt.
-use Rattle.std.specs.Prelude.{ℕ, ◌+◌, ◌-◌, ◌≡◌, refl, List, drop}
+use Rattle.std.specs.Prelude.{ℕ, ◌+◌, ◌-◌, ◌≡◌, refl, List, drop, Option}
 use Rattle.std.proofs.Common.{ap}
 use Rattle.wire.specs.Memory.{part_of}
-use Rattle.watch.specs.declared.given.Found.{Found}
-use Rattle.mmtp.specs.declared.flow.Flow.{Flow}
-use Rattle.mmtp.specs.declared.flow.Flow.TheVariants.{Silent as OtherFlow, Noted as NotedFlow, Mmtp}
+use Rattle.mmtp.specs.Flow.{Flow, Silent as OtherFlow, Noted as NotedFlow, Mmtp, flow_of}
 use Rattle.mmtp.specs.declared.note.PacketNote.{PacketNote}
-use Rattle.mmtp.specs.Flow.{flow_of}
 use Rattle.mmtp.specs.Packet.{reading_of}
 use Rattle.mmtp.proofs.PacketLaws.{reading-same}
 use Rattle.reassembly.specs.declared.config.Rules.{Rules}
 use Rattle.reassembly.specs.declared.channel.Channel.{Channel}
-use Rattle.reassembly.specs.declared.join.Joined.{Joined}
+use Rattle.reassembly.specs.Joined.{Joined}
 use Rattle.queue.specs.declared.located.Located.{Located}
-use Rattle.delivery.specs.declared.packet.Arrived.TheVariants.{Silent, Noted}
+use Rattle.delivery.specs.Arrived.{Silent, Noted}
 use Rattle.delivery.specs.Packet.{read_by, flow_by, comes_to, bytes_at, base_of, unit_in, step_of, joined_by, joined_of}
 
 -- Laws.
 -- a TLV packet, by its flow
-module _ (cid : ℕ) (look : ℕ → Found) (p : List ℕ) (start end : ℕ) where
+module _ (cid : ℕ) (look : ℕ → Option ℕ) (p : List ℕ) (start end : ℕ) where
   pub arrived-silent : flow_of (part_of p start (end - start)) cid ≡ OtherFlow → comes_to cid look p start end ≡ Silent
   unfolding comes_to
   arrived-silent e = rw e
@@ -33,7 +30,7 @@ module _ (cid : ℕ) (look : ℕ → Found) (p : List ℕ) (start end : ℕ) whe
   arrived_mmtp n e = rw e
 
 -- two searches that answer alike
-pub arrived-same : (cid : ℕ) (look other : ℕ → Found) (p : List ℕ) (start end : ℕ) → ((id : ℕ) → look id ≡ other id)
+pub arrived-same : (cid : ℕ) (look other : ℕ → Option ℕ) (p : List ℕ) (start end : ℕ) → ((id : ℕ) → look id ≡ other id)
     → comes_to cid look p start end ≡ comes_to cid other p start end
 unfolding comes_to
 arrived-same cid look other p start end e = go (flow_of (part_of p start (end - start)) cid)

@@ -7,17 +7,13 @@ use Rattle.wire.specs.Memory.{part_of}
 use Rattle.wire.proofs.MemoryLaws.{length-pasted}
 use Rattle.watch.specs.Rising.{search_of}
 use Rattle.watch.proofs.Order.{search_at}
-use Rattle.mmtp.specs.declared.flow.Flow.{Flow}
-use Rattle.mmtp.specs.declared.flow.Flow.TheVariants.{Silent as OtherFlow, Noted as NotedFlow, Mmtp}
-use Rattle.mmtp.specs.declared.packet.Reading.{Reading}
-use Rattle.mmtp.specs.declared.packet.Reading.TheVariants.{Silent as Unwatched, Noted as NotedPacket, Good as GoodPacket}
+use Rattle.mmtp.specs.Flow.{Flow, Silent as OtherFlow, Noted as NotedFlow, Mmtp, flow_of}
+use Rattle.mmtp.specs.Packet.{Reading, Silent as Unwatched, Noted as NotedPacket, Good as GoodPacket, reading_of}
 use Rattle.mmtp.specs.declared.payload.Payload.{Payload}
 use Rattle.mmtp.specs.declared.payload.Indicator.{Indicator}
 use Rattle.mmtp.specs.declared.payload.Indicator.TheVariants.{Whole as FI00, First, Middle, Last}
 use Rattle.mmtp.specs.declared.unit.DataUnit.{DataUnit}
 use Rattle.mmtp.specs.declared.unit.Step.TheVariants.{Unit, Malformed as NoUnit}
-use Rattle.mmtp.specs.Flow.{flow_of}
-use Rattle.mmtp.specs.Packet.{reading_of}
 use Rattle.mmtp.proofs.PacketLaws.{packet-place}
 use Rattle.mmtp.specs.Unit.{single_at, single_unit, single_fits, Inside}
 use Rattle.mmtp.proofs.UnitLaws.{single_next}
@@ -26,7 +22,7 @@ use Rattle.reassembly.specs.declared.channel.Channel.{Channel}
 use Rattle.reassembly.specs.declared.channel.Phase.{Phase}
 use Rattle.reassembly.specs.declared.channel.Phase.TheVariants.{Unheard, Waiting, Idle, Open}
 use Rattle.reassembly.specs.declared.join.Piece.{Piece}
-use Rattle.reassembly.specs.declared.join.Joined.{Joined}
+use Rattle.reassembly.specs.Joined.{Joined}
 use Rattle.reassembly.specs.declared.join.Action.{Action}
 use Rattle.reassembly.specs.declared.join.Action.TheVariants.{Nothing as NoAction, Whole, Store, Complete}
 use Rattle.reassembly.specs.Unit.{agrees}
@@ -36,8 +32,7 @@ use Rattle.wire.proofs.Choice.{by_test}
 use Rattle.words.specs.Config.{KeptConfig}
 use Rattle.queue.specs.Waiting.{Queue}
 use Rattle.queue.specs.declared.located.Located.{Located}
-use Rattle.delivery.specs.declared.packet.Arrived.{Arrived}
-use Rattle.delivery.specs.declared.packet.Arrived.TheVariants.{Silent, Noted, Good}
+use Rattle.delivery.specs.Arrived.{Arrived, Silent, Noted, Good}
 use Rattle.delivery.specs.Packet.{read_by, flow_by, comes_to, arrived_at, first_unit, unit_or, blank_unit, Room, Reach, place_of, Fits, collected, bytes_at, unit_in, base_of, step_of, piece_from, joined_of, received_of}
 use Rattle.queue.specs.Located.{unit_len}
 use Rattle.delivery.specs.Within.{Watched, Below}

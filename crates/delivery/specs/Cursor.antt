@@ -1,20 +1,18 @@
 -- What next comes to in a slot: its note, the packet that it completed, the packets from its top pointer, its tail.
-use Rattle.std.specs.Prelude.{ℕ, suc, ◌+◌, ◌-◌, Bool, cond, List, drop, eqb}
+use Rattle.std.specs.Prelude.{ℕ, suc, ◌+◌, ◌-◌, Bool, cond, List, drop, eqb, Option, Some, None}
 use Rattle.std.proofs.Math.Bool.{true, false}
 use Rattle.wire.specs.Memory.{part_of}
-use Rattle.tlv.specs.declared.packet.Next.{Next}
-use Rattle.tlv.specs.declared.packet.Next.TheVariants.{Packet as PacketTo, Tail as TailAt}
 use Rattle.tlv.specs.declared.note.SlotNote.TheVariants.{TooLong}
 use Rattle.tlv.specs.Notes.{number_of}
 use Rattle.tlv.specs.Packet.{packet_at, too_long}
-use Rattle.queue.specs.declared.event.Event.{Event as AnEvent}
-use Rattle.queue.specs.declared.event.Event.TheVariants.{Nothing, Note, Unit, Refused}
+use Rattle.queue.specs.Event.{Event as AnEvent}
+use Rattle.queue.specs.Event.{Nothing, Note, Unit, Refused}
 use Rattle.intake.specs.declared.held.Cursor.{Cursor}
 use Rattle.intake.specs.Slot.{noted}
 use Rattle.queue.specs.Waiting.{Queue}
-use Rattle.delivery.specs.declared.cursor.Found.{Found}
-use Rattle.delivery.specs.declared.cursor.Found.TheVariants.{Event, Packet, Tail, Done}
-use Rattle.delivery.specs.declared.cursor.Advanced.{Advanced}
+use Rattle.delivery.specs.Found.{Found}
+use Rattle.delivery.specs.Found.{Event, Packet, Tail, Done}
+use Rattle.delivery.specs.Found.{Advanced}
 use Rattle.queue.specs.Queue.{event_taken}
 
 -- "a tail is held, but one whose known total is above 16,384 gives 43"
@@ -22,13 +20,13 @@ unfoldable pub tail_advanced : List ℕ → ℕ → ℕ → Advanced
 tail_advanced s at end = record { found = cond (too_long (drop at s)) (Event (Note (number_of TooLong) 0)) (Tail at (end - at)); cursor = noted 0 }
 
 -- what stands at the cursor in the slot, and the cursor past it
-abbrev pub advanced_by : Next → Cursor → List ℕ → Advanced
-advanced_by (PacketTo e) c s =
+abbrev pub advanced_by : Option ℕ → Cursor → List ℕ → Advanced
+advanced_by (Some e) c s =
     record {
       found = Packet c.at e;
       cursor = record { note = c.note; packet = c.packet; reading = c.reading; at = e; end = c.end };
     }
-advanced_by TailAt c s = tail_advanced s c.at c.end
+advanced_by None c s = tail_advanced s c.at c.end
 
 unfoldable pub slot_advanced : Cursor → List ℕ → Advanced
 slot_advanced c p = let s = part_of p 0 c.end in advanced_by (packet_at s c.at) c s

@@ -4,8 +4,7 @@ use Rattle.mmtp.specs.declared.payload.Indicator.{Indicator}
 use Rattle.mmtp.specs.declared.payload.Indicator.TheVariants.{First, Last}
 use Rattle.reassembly.specs.declared.channel.Channel.{Channel}
 use Rattle.reassembly.specs.Channel.{unheard}
-use Rattle.delivery.specs.declared.packet.Arrived.{Arrived}
-use Rattle.delivery.specs.declared.packet.Arrived.TheVariants.{Good}
+use Rattle.delivery.specs.Arrived.{Arrived, Good}
 use Rattle.delivery.specs.Packet.{JoinedPacket, received_of}
 use Rattle.queue.specs.Queue.{empty}
 

@@ -1,26 +1,21 @@
 -- A TLV packet in packet memory: read, and joined to the state of its packet_id over collecting memory.
-use Rattle.std.specs.Prelude.{ℕ, ◌+◌, ◌-◌, ◌*◌, ◌≤◌, ◌<◌, Bool, true, false, cond, List, drop}
+use Rattle.std.specs.Prelude.{ℕ, ◌+◌, ◌-◌, ◌*◌, ◌≤◌, ◌<◌, Bool, true, false, cond, List, drop, Option}
 use Rattle.wire.specs.Memory.{part_of, pasted}
-use Rattle.watch.specs.declared.given.Found.{Found}
 use Rattle.watch.specs.Rising.{search_of}
-use Rattle.mmtp.specs.declared.flow.Flow.{Flow}
-use Rattle.mmtp.specs.declared.flow.Flow.TheVariants.{Silent as OtherFlow, Noted as NotedFlow, Mmtp}
+use Rattle.mmtp.specs.Flow.{Flow, Silent as OtherFlow, Noted as NotedFlow, Mmtp, flow_of}
 use Rattle.mmtp.specs.declared.packet.Packet.{Packet}
-use Rattle.mmtp.specs.declared.packet.Reading.{Reading}
-use Rattle.mmtp.specs.declared.packet.Reading.TheVariants.{Silent as Unwatched, Noted as NotedPacket, Good as GoodPacket}
+use Rattle.mmtp.specs.Packet.{Reading, Silent as Unwatched, Noted as NotedPacket, Good as GoodPacket, reading_of}
 use Rattle.mmtp.specs.declared.unit.DataUnit.{DataUnit}
 use Rattle.mmtp.specs.declared.unit.Step.{Step}
 use Rattle.mmtp.specs.declared.unit.Step.TheVariants.{Unit, Malformed as NoUnit, End}
 use Rattle.mmtp.specs.declared.payload.Payload.{Payload}
 use Rattle.mmtp.specs.declared.note.PacketNote.{PacketNote}
 use Rattle.mmtp.specs.Notes.{number_of}
-use Rattle.mmtp.specs.Flow.{flow_of}
-use Rattle.mmtp.specs.Packet.{reading_of}
 use Rattle.mmtp.specs.Unit.{no_fields, single_at}
 use Rattle.reassembly.specs.declared.config.Rules.{Rules}
 use Rattle.reassembly.specs.declared.channel.Channel.{Channel}
 use Rattle.reassembly.specs.declared.join.Piece.{Piece}
-use Rattle.reassembly.specs.declared.join.Joined.{Joined}
+use Rattle.reassembly.specs.Joined.{Joined}
 use Rattle.reassembly.specs.declared.join.Action.{Action}
 use Rattle.reassembly.specs.declared.join.Action.TheVariants.{Nothing as NoAction, Whole, Store, Complete}
 use Rattle.reassembly.specs.Unit.{carried}
@@ -31,8 +26,7 @@ use Rattle.queue.specs.declared.event.Given.{Given}
 use Rattle.queue.specs.Waiting.{Give, Nothing, One, Many, Queue}
 use Rattle.queue.specs.declared.located.Located.{Located}
 use Rattle.queue.specs.Located.{unit_len, whole_given}
-use Rattle.delivery.specs.declared.packet.Arrived.{Arrived}
-use Rattle.delivery.specs.declared.packet.Arrived.TheVariants.{Silent, Noted, Good}
+use Rattle.delivery.specs.Arrived.{Arrived, Silent, Noted, Good}
 
 -- an MMTP packet that stands from `start` to `end`
 abbrev pub read_by : Reading → ℕ → ℕ → Arrived
@@ -40,13 +34,13 @@ read_by Unwatched start end = Silent
 read_by (NotedPacket n id) start end = Noted n id
 read_by (GoodPacket p) start end = Good (record { packet = p; start = start; end = end })
 
-abbrev pub flow_by : Flow → (ℕ → Found) → List ℕ → ℕ → ℕ → Arrived
+abbrev pub flow_by : Flow → (ℕ → Option ℕ) → List ℕ → ℕ → ℕ → Arrived
 flow_by OtherFlow look b start end = Silent
 flow_by (NotedFlow n) look b start end = Noted n 0
 flow_by (Mmtp n) look b start end = read_by (reading_of (drop n b) look) (start + n) end
 
 -- the TLV packet that stands from `start` to `end` in packet memory, by the CID and the search in the watch list
-unfoldable pub comes_to : ℕ → (ℕ → Found) → List ℕ → ℕ → ℕ → Arrived
+unfoldable pub comes_to : ℕ → (ℕ → Option ℕ) → List ℕ → ℕ → ℕ → Arrived
 comes_to cid look p start end = let b = part_of p start (end - start) in flow_by (flow_of b cid) look b start end
 
 -- the same by what start keeps: the search is over the list in rising order

@@ -1,6 +1,5 @@
 -- Where packets and their data units lie in packet memory, and pieces in collecting memory.
-use Rattle.std.specs.Prelude.{ℕ, ◌+◌, ◌-◌, ◌≤◌, ◌<◌, ◌≡◌}
-use Rattle.watch.specs.declared.given.Found.TheVariants.{At}
+use Rattle.std.specs.Prelude.{ℕ, ◌+◌, ◌≤◌, ◌<◌, ◌≡◌, Some}
 use Rattle.watch.specs.Rising.{search_of}
 use Rattle.reassembly.specs.declared.config.Rules.{Rules}
 use Rattle.reassembly.specs.declared.join.Action.{Action}
@@ -13,7 +12,7 @@ use Rattle.delivery.specs.Packet.{Unit₀}
 pub record Watched (c : KeptConfig) (l : Located) : Type 0 where
   pub low : l.packet.place < 16
   pub listed : l.packet.place < c.watch.n
-  pub found : search_of c.watch l.packet.packet_id ≡ At l.packet.place
+  pub found : search_of c.watch l.packet.packet_id ≡ Some l.packet.place
 
 -- what an action stores ends within R
 abbrev pub Below : Action → ℕ → Rules → Type 0

@@ -1,18 +1,17 @@
 // What next comes to in a slot: what a packet has yet to give, the slot's note, its packets, its tail.
 ghost use Rattle.std.specs.Prelude.{◌≡◌, drop};
 ghost use Rattle.tlv.specs.Packet.{too_long};
-ghost use Rattle.delivery.specs.Cursor.{tail_advanced, slot_advanced, advanced_of, is_event};
+ghost use Rattle.delivery.specs.Found.{as_advanced};
+ghost use Rattle.delivery.specs.Cursor.{tail_advanced, slot_advanced, advanced_of};
 
 use intake::held::Cursor;
-use queue::event::Event;
-use tlv::note::{SlotNote, number};
-use tlv::packet::Next;
+use tlv::note::SlotNote;
 
 // What next comes to.
 #[derive(Clone, Copy)]
 pub enum Found {
     // A note of the slot.
-    Event(Event),
+    Note(u8),
     // A TLV packet, from where to where in packet memory.
     Packet(usize, usize),
     // A tail that is held, where it starts and how long it is.
@@ -31,71 +30,53 @@ pub struct Advanced {
 fn is_too_long(s: &[u8], at: usize) -> bool
     ensures { result ≡ too_long (drop at s.now) }
 {
-    if s.len() < at {
-        return false;
-    }
-    tlv::packet::too_long(s, at)
+    at <= s.len() && tlv::packet::too_long(s, at)
 }
 
 // The tail of the slot: held, or noted as too long.
+#[tactic(auto, unfolding(crate::specs::Cursor::tail_advanced))]
 fn advance_tail(s: &[u8], at: usize, end: usize) -> Advanced
-    ensures { result ≡ tail_advanced s.now at end }
+    ensures { as_advanced result ≡ tail_advanced s.now at end }
 {
-    let cursor = Cursor {
-        note: 0,
-        packet: 0,
-        reading: false,
-        at: 0,
-        end: 0,
+    let found = if is_too_long(s, at) {
+        Found::Note(SlotNote::TooLong.into())
+    } else {
+        Found::Tail(at, wire::memory::distance(at, end))
     };
-    if is_too_long(s, at) {
-        return Advanced {
-            found: Found::Event(Event::Note(number(SlotNote::TooLong), 0)),
-            cursor,
-        };
-    }
-    let len = wire::memory::distance(at, end);
     Advanced {
-        found: Found::Tail(at, len),
-        cursor,
+        found,
+        cursor: Cursor::default(),
     }
 }
 
 // A packet of the slot, or its tail.
+#[tactic(auto, unfolding(crate::specs::Cursor::slot_advanced))]
 fn advance_slot(c: Cursor, memory: &[u8]) -> Advanced
-    ensures { result ≡ slot_advanced c memory.now }
+    ensures { as_advanced result ≡ slot_advanced c memory.now }
 {
-    let at = c.at;
-    let end = c.end;
-    let s = wire::memory::part(memory, 0, end);
-    let next = tlv::packet::packet_at(s, at);
-    match next {
-        Next::Packet(to) => {
-            let cursor = Cursor { at: to, ..c };
-            Advanced {
-                found: Found::Packet(at, to),
-                cursor,
-            }
-        }
-        Next::Tail => advance_tail(s, at, end),
+    let s = wire::memory::part(memory, 0, c.end);
+    match tlv::packet::packet_at(s, c.at) {
+        Some(to) => Advanced {
+            found: Found::Packet(c.at, to),
+            cursor: Cursor { at: to, ..c },
+        },
+        None => advance_tail(s, c.at, c.end),
     }
 }
 
 pub fn advance(c: Cursor, memory: &[u8]) -> Advanced
-    ensures { result ≡ advanced_of c memory.now }
+    ensures { as_advanced result ≡ advanced_of c memory.now }
 {
     if c.note != 0 {
-        let cursor = Cursor { note: 0, ..c };
         return Advanced {
-            found: Found::Event(Event::Note(c.note, 0)),
-            cursor,
+            found: Found::Note(c.note),
+            cursor: Cursor { note: 0, ..c },
         };
     }
     if c.packet != 0 {
-        let cursor = Cursor { packet: 0, ..c };
         return Advanced {
             found: Found::Packet(0, c.packet),
-            cursor,
+            cursor: Cursor { packet: 0, ..c },
         };
     }
     if c.reading {
@@ -104,16 +85,5 @@ pub fn advance(c: Cursor, memory: &[u8]) -> Advanced
     Advanced {
         found: Found::Done,
         cursor: c,
-    }
-}
-
-pub fn is_event(event: Event) -> bool
-    ensures { result ≡ is_event event }
-{
-    match event {
-        Event::Nothing => false,
-        Event::Note(_, _) => true,
-        Event::Unit(_) => true,
-        Event::Refused(_) => true,
     }
 }

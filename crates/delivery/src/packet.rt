@@ -1,15 +1,16 @@
 // A TLV packet in packet memory: read, and joined to the state of its packet_id.
 ghost use Rattle.std.specs.Prelude.{◌≡◌, ◌+◌, ◌-◌, ◌*◌, ◌≤◌, ◌<◌, length};
-ghost use Rattle.delivery.specs.Packet.{read_by, arrived_at, first_unit, piece_from, Stored, stored, Room, Reach, collected};
+ghost use Rattle.reassembly.specs.Joined.{as_joined};
+ghost use Rattle.delivery.specs.Arrived.{as_arrived};
+ghost use Rattle.delivery.specs.Packet.{arrived_at, first_unit, piece_from, Stored, stored, Room, Reach, collected};
 ghost use Rattle.queue.specs.Located.{whole_given};
 ghost use Rattle.delivery.specs.Packet.{wholes_of, give_of};
 ghost use Rattle.queue.specs.Words.{GiveStored};
 ghost use Rattle.words.specs.Config.{read_config};
 ghost use Rattle.delivery.specs.Words.{Keeps, Joins, Receives};
 
-use mmtp::flow::Flow;
-use mmtp::note::{PacketNote, number};
-use mmtp::packet::{Packet, Reading};
+use mmtp::note::Noted;
+use mmtp::packet::Packet;
 use mmtp::payload::{Indicator, Payload};
 use mmtp::unit::{DataUnit, Fields, Step};
 use queue::event::{Given, Memory, Place};
@@ -21,71 +22,49 @@ use reassembly::join::{Action, Joined, Piece};
 use words::channel::{CHANNEL_WORDS, load_channel, store_channel, store_heard};
 use words::config::{LIST, load_cid, load_count, load_rules};
 
-// What a TLV packet comes to.
-#[derive(Clone, Copy)]
-pub enum Arrived {
-    Silent,
-    // A note and its packet_id; 0 where it has none.
-    Noted(PacketNote, u16),
-    Good(Located),
-}
-
-// An MMTP packet that stands from `start` to `end` in packet memory, by its reading.
-fn locate(reading: Reading, start: usize, end: usize) -> Arrived
-    ensures { result ≡ read_by reading start end }
-{
-    match reading {
-        Reading::Silent => Arrived::Silent,
-        Reading::Noted(note, id) => Arrived::Noted(note, id),
-        Reading::Good(packet) => Arrived::Good(Located { packet, start, end }),
-    }
-}
-
 // The TLV packet that stands from `start` to `end` in packet memory. What start keeps stands in twenty words from `c` on.
-pub fn arrive(t: &[u64], c: usize, memory: &[u8], start: usize, end: usize) -> Arrived
+// None where it holds no packet of a watched packet_id.
+#[tactic(auto, using(mmtp::proofs::FlowLaws::mmtp_place), unfolding(crate::specs::Packet::comes_to))]
+pub fn arrive(
+    t: &[u64],
+    c: usize,
+    memory: &[u8],
+    start: usize,
+    end: usize,
+) -> Result<Option<Located>, Noted>
     requires { c + 20 ≤ length t.now }
-    ensures { result ≡ arrived_at (read_config t.now c) memory.now start end }
+    ensures { as_arrived result ≡ arrived_at (read_config t.now c) memory.now start end }
 {
     let len = wire::memory::distance(start, end);
     let bytes = wire::memory::part(memory, start, len);
     let cid = load_cid(t, c);
-    let flow = mmtp::flow::find(bytes, cid);
-    match flow {
-        Flow::Silent => Arrived::Silent,
-        Flow::Noted(note) => Arrived::Noted(note, 0),
-        Flow::Mmtp(n) => {
-            let watched = load_count(t, c);
-            let reading = mmtp::packet::read(&bytes[n..], t, c + LIST, watched);
-            locate(reading, start + n, end)
-        }
-    }
+    let Some(n) = mmtp::flow::find(bytes, cid)? else {
+        return Ok(None);
+    };
+    let watched = load_count(t, c);
+    let Some(packet) = mmtp::packet::read(&bytes[n..], t, c + LIST, watched)? else {
+        return Ok(None);
+    };
+    let start = start + n;
+    Ok(Some(Located { packet, start, end }))
 }
 
 // The data unit of a packet that is not aggregated.
+#[tactic(auto, unfolding(crate::specs::Packet::first_unit))]
 fn first_unit(m: &[u8], payload: Payload) -> DataUnit
     ensures { result ≡ first_unit m.now payload }
 {
-    let fields = Fields {
-        movie_fragment: 0,
-        sample: 0,
-        offset: 0,
-        priority: 0,
-        dependency: 0,
-        item: 0,
-    };
     let blank = DataUnit {
-        fields,
+        fields: Fields::default(),
         start: 0,
         end: 0,
     };
     if payload.aggregated {
         return blank;
     }
-    let step = mmtp::unit::single_at(m, payload.start, payload.kind);
-    match step {
+    match mmtp::unit::single_at(m, payload.start, payload.kind) {
         Step::Unit(u) => u,
-        Step::Malformed => blank,
-        Step::End => blank,
+        Step::Malformed | Step::End => blank,
     }
 }
 
@@ -94,14 +73,10 @@ fn piece(packet: Packet, u: DataUnit) -> Piece
     requires { u.start ≤ u.end }
     ensures { result ≡ piece_from packet u }
 {
-    let fields = u.fields;
-    let unit = reassembly::unit::of_packet(packet, fields);
-    let payload = packet.payload;
-    let indicator = payload.indicator;
     Piece {
-        unit,
-        indicator,
-        counter: payload.counter,
+        unit: reassembly::unit::of_packet(packet, u.fields),
+        indicator: packet.payload.indicator,
+        counter: packet.payload.counter,
         len: u.end - u.start,
     }
 }
@@ -111,38 +86,32 @@ fn store_piece(collecting: &mut [u8], at: usize, m: &[u8], u: DataUnit)
     requires { Stored (length collecting.old) at (length m.now) u }
     ensures { collecting.new ≡ stored collecting.old at m.now u }
 {
-    let start = u.start;
-    let end = u.end;
-    wire::memory::copy_at(collecting, at, &m[start..end]);
+    wire::memory::copy_at(collecting, at, &m[u.start..u.end]);
 }
 
 // The piece's bytes go to collecting memory, where the action says so.
+#[tactic(auto, unfolding(crate::specs::Packet::collected))]
 fn collect(action: Action, collecting: &mut [u8], base: usize, m: &[u8], u: DataUnit)
     requires { Room action (length collecting.old) base (length m.now) u }
     ensures { collecting.new ≡ collected action collecting.old base m.now u }
 {
     match action {
-        Action::Nothing => {}
-        Action::Whole => {}
-        Action::Store(at) => store_piece(collecting, base + at, m, u),
-        Action::Complete(at) => store_piece(collecting, base + at, m, u),
+        Action::Nothing | Action::Whole => {}
+        Action::Store(at) | Action::Complete(at) => store_piece(collecting, base + at, m, u),
     }
 }
 
 // The units that a packet gives.
+#[tactic(auto, unfolding(crate::specs::Packet::give_of))]
 fn give(t: &mut [u64], i: usize, j: Joined, l: Located, base: usize, u: DataUnit)
     requires { (i + 17 ≤ length t.old) × (u.start ≤ u.end) × (l.start + u.start < 18446744073709551616) × Reach j.action u }
-    ensures { GiveStored t.old t.new i (give_of j.action j l base u) }
+    ensures { GiveStored t.old t.new i (give_of j.action (as_joined j) l base u) }
 {
-    let action = j.action;
-    match action {
-        Action::Nothing => put_none(t, i),
+    match j.action {
+        Action::Nothing | Action::Store(_) => put_none(t, i),
         Action::Whole => give_wholes(t, i, l, u),
-        Action::Store(_) => put_none(t, i),
         Action::Complete(at) => {
-            let channel = j.channel;
-            let current = channel.current;
-            let unit = current.unit;
+            let unit = j.channel.current.unit;
             let place = Place {
                 memory: Memory::Collecting,
                 start: base,
@@ -158,14 +127,12 @@ fn give_wholes(t: &mut [u64], i: usize, l: Located, u: DataUnit)
     requires { (i + 17 ≤ length t.old) × (u.start ≤ u.end) × (l.start + u.start < 18446744073709551616) }
     ensures { GiveStored t.old t.new i (wholes_of l.packet.payload.aggregated l u) }
 {
-    let packet = l.packet;
-    let payload = packet.payload;
+    let payload = l.packet.payload;
     if payload.aggregated {
-        put_many(t, i, l, payload.start);
-        return;
+        put_many(t, i, l, payload.start)
+    } else {
+        put_one(t, i, whole(l, u))
     }
-    let given = whole(l, u);
-    put_one(t, i, given);
 }
 
 // A joined packet's channel is stored; of a packet FI 00 the phase and the psn alone.
@@ -173,15 +140,9 @@ fn keep(words: &mut [u64], i: usize, packet: Packet, ch: Channel)
     requires { i + 14 ≤ length words.old }
     ensures { Keeps words.old i packet.payload.indicator ch words.new }
 {
-    let payload = packet.payload;
-    let indicator = payload.indicator;
-    let phase = ch.phase;
-    let last = ch.last;
-    match indicator {
-        Indicator::Whole => store_heard(words, i, phase, last),
-        Indicator::First => store_channel(words, i, ch),
-        Indicator::Middle => store_channel(words, i, ch),
-        Indicator::Last => store_channel(words, i, ch),
+    match packet.payload.indicator {
+        Indicator::Whole => store_heard(words, i, ch.phase, ch.last),
+        Indicator::First | Indicator::Middle | Indicator::Last => store_channel(words, i, ch),
     }
 }
 
@@ -201,22 +162,18 @@ fn join(
         t.new collecting.new }
 {
     let packet = l.packet;
-    let start = l.start;
-    let end = l.end;
-    let len = wire::memory::distance(start, end);
-    let m = wire::memory::part(memory, start, len);
-    let payload = packet.payload;
-    let u = first_unit(m, payload);
+    let len = wire::memory::distance(l.start, l.end);
+    let m = wire::memory::part(memory, l.start, len);
+    let u = first_unit(m, packet.payload);
     let p = piece(packet, u);
     let at = k + CHANNEL_WORDS * packet.place;
     let ch = load_channel(t, at);
     let j = reassembly::join::join(ch, p, rules);
     let base = packet.place * rules.limit;
-    let action = j.action;
-    collect(action, collecting, base, m, u);
-    let channel = j.channel;
-    keep(t, at, packet, channel);
-    put_notes(t, i, j.note, j.over, packet.packet_id);
+    collect(j.action, collecting, base, m, u);
+    keep(t, at, packet, j.channel);
+    let note = j.note.map_or(0, u8::from);
+    put_notes(t, i, note, j.over, packet.packet_id);
     give(t, i, j, l, base, u);
 }
 
@@ -236,16 +193,15 @@ pub fn receive(
     ensures { Receives (read_config t.old c) t.old i k memory.now collecting.old start end
         t.new collecting.new }
 {
-    let arrived = arrive(t, c, memory, start, end);
-    match arrived {
-        Arrived::Silent => {}
-        Arrived::Noted(note, id) => {
-            put_notes(t, i, number(note), false, id);
-            put_none(t, i)
-        }
-        Arrived::Good(l) => {
+    match arrive(t, c, memory, start, end) {
+        Ok(None) => {}
+        Ok(Some(l)) => {
             let rules = load_rules(t, c);
             join(t, i, k, l, memory, collecting, rules)
+        }
+        Err(noted) => {
+            put_notes(t, i, noted.note.into(), false, noted.packet_id);
+            put_none(t, i)
         }
     }
 }

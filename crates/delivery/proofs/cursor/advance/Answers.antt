@@ -11,10 +11,8 @@ returns-then-c-ne0-2 c = sym (advanced_packet _ _ c.if-c-ne0.false c.if-c-ne0-2.
 
 pub returns-then-c : goal.returns-then-c
 returns-then-c c =
-    let d = c in
-    c.advance_slot.ensures ∙ sym (advanced_slot _ _ d.if-c-ne0.false d.if-c-ne0-2.false c.if-c.true)
+    c.advance_slot.ensures ∙ sym (advanced_slot _ _ c.if-c-ne0.false c.if-c-ne0-2.false c.if-c.true)
 
 pub returns : goal.returns
 returns c =
-    let d = c in
-    sym (advanced_done _ _ d.if-c-ne0.false d.if-c-ne0-2.false c.if-c.false)
+    sym (advanced_done _ _ c.if-c-ne0.false c.if-c-ne0-2.false c.if-c.false)

@@ -1,13 +1,14 @@
 -- Why `is_too_long` meets its contract: past the end there is no header.
+use Rattle.std.specs.Prelude.{ℕ, ◌<◌, ◌≡◌, List, length, drop, leb}
+use Rattle.std.proofs.Common.{◌∙◌, sym, arith}
+use borrow.Author.Tests.{lt-leb}
 use Rattle.tlv.specs.Packet.{too_long}
-use lib.ListN.{length, drop_of_length-le}
-use Prim.Native.Nat.{◌≤◌}
-use native.Mathlib.Omega.{arith}
+use lib.ListN.{drop_of_length-le}
 use Rattle.delivery.proofs.cursor.is_too_long.Goals as goal
 
-pub returns-then-s-at : goal.returns-then-s-at
+past : (s : List ℕ) (at : ℕ) → length s < at → leb at (length s) ≡ too_long (drop at s)
 unfolding too_long
-returns-then-s-at c =
-    let s = c.args.s.now in
-    let h : length s ≤ c.args.at = omega arith in
-    rw (drop_of_length-le s h)
+past s at h = lt-leb _ _ h ∙ sym (rw (drop_of_length-le s {i = at} (omega arith)))
+
+pub returns-else-at-s : goal.returns-else-at-s
+returns-else-at-s c = past c.args.s.now c.args.at (omega arith)

@@ -8,8 +8,7 @@ use Rattle.delivery.proofs.packet.store_piece.Goals as goal
 
 pub returns : goal.returns
 returns c =
-    let d = c in
-    let u = d.args.u in
-    let h : u.end - u.start ≤ length (drop u.start d.args.m.now) =
-    rw length-drop (omega (arith, d.requires.ordered, d.requires.within)) in
+    let u = c.args.u in
+    let h : u.end - u.start ≤ length (drop u.start c.args.m.now) =
+    rw length-drop (omega (arith, c.requires.ordered, c.requires.within)) in
     c.copy_at.ensures ∙ pasted-take _ _ _ _ h
