@@ -1,7 +1,13 @@
 -- Laws of specs/Frame.antt.
-use Rattle.std.specs.Prelude.{ℕ, ◌<◌, ◌≤◌, true, false, List, ◌≡◌, refl, length, ltb}
+use Rattle.std.specs.Prelude.{ℕ, ◌<◌, ◌≤◌, true, false, List, ◌≡◌, refl, length, ltb, Ok, Err}
 use Rattle.std.proofs.Math.Bool.{or-true}
 use borrow.Author.Tests.{lt-ltb, le-ltb, eq-eqb, ne_eqb, ltb-false}
+use Rattle.refusal.specs.declared.Refusal.{Refusal}
+use Rattle.refusal.specs.Refusal.{number_of}
+use Rattle.refusal.proofs.Numbers.{number-some}
+use Rattle.tmcc.specs.declared.layout.Layout.{Layout as ALayout}
+use Rattle.tmcc.specs.Layout.{as_layout}
+use Rattle.tmcc.specs.Decoded.{as_decoded}
 use Rattle.tmcc.specs.Block.{decode_of}
 use Rattle.state.specs.State.{State, with_frame, refused, accepted}
 use Rattle.wire.proofs.Choice.{neither}
@@ -52,6 +58,16 @@ module _ (st : State) (b : List ℕ) where
           → frame_of st b ≡ accepted (with_frame st (record { layout = (decode_of b st.config.stream).layout; at = 0 }))
       unfolding frame_of
       frame-accepted z = rw (eq-eqb _ _ l, free, eq-eqb _ _ z)
+
+      -- the same, by what the block's code answers
+      pub decoded-refusal : (r : Refusal) → as_decoded (Err r) ≡ decode_of b st.config.stream → frame_of st b ≡ refused (number_of r) st
+      unfolding frame_of
+      decoded-refusal r e = rw (eq-eqb _ _ l, free, ← e, ne_eqb _ _ (number-some r))
+
+      pub decoded-layout : (y : ALayout) → as_decoded (Ok y) ≡ decode_of b st.config.stream
+          → frame_of st b ≡ accepted (with_frame st (record { layout = as_layout y; at = 0 }))
+      unfolding frame_of
+      decoded-layout y e = rw (eq-eqb _ _ l, free, ← e)
 
 module _ (st : State) where
   pub lost-frame-busy : frame_busy st ≡ true → lost_frame_of st ≡ refused 11 st

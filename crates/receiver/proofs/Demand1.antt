@@ -5,8 +5,8 @@ use mathlib.Core.Bool.{true}
 use mathlib.Core.List.{List}
 use lib.ListN.{length}
 use Rattle.wire.proofs.MemoryLaws.{part-inside, part-outside}
-use Rattle.queue.specs.declared.event.Event.{Event}
-use Rattle.queue.specs.declared.event.Event.TheVariants.{Nothing, Refused}
+use Rattle.queue.specs.Event.{Event}
+use Rattle.queue.specs.Event.{Nothing, Refused}
 use Rattle.wire.proofs.Choice.{by_test}
 use Rattle.delivery.specs.Cursor.{left}
 use Rattle.state.specs.State.{State}

@@ -1,4 +1,5 @@
 -- The length that next gives with a unit is that of the bytes that show returns.
+use Rattle.std.specs.Prelude.{Option, Some, None}
 use Prim.Native.Nat.{ℕ, zero, suc, ◌+◌, ◌-◌, ◌*◌, ◌≤◌}
 use mathlib.Core.Path.{◌≡◌, refl, subst}
 use mathlib.Core.Bool.{Bool, true, false}
@@ -14,20 +15,19 @@ use Rattle.wire.proofs.MemoryLaws.{part-inside, part-within, part_length}
 use Rattle.mmtp.specs.declared.unit.DataUnit.{DataUnit}
 use Rattle.mmtp.specs.declared.unit.Step.{Step}
 use Rattle.mmtp.specs.declared.unit.Step.TheVariants.{Unit as UnitAt, Malformed, End}
-use Rattle.reassembly.specs.declared.join.Joined.{Joined}
+use Rattle.reassembly.specs.Joined.{Joined}
 use Rattle.reassembly.specs.declared.join.Action.{Action}
 use Rattle.reassembly.specs.declared.join.Action.TheVariants.{Nothing as NoAction, Whole, Store, Complete}
 use Rattle.reassembly.specs.Channel.{unheard}
-use Rattle.queue.specs.declared.event.Event.{Event as NextEvent}
-use Rattle.queue.specs.declared.event.Event.TheVariants.{Nothing, Note, Unit, Refused}
+use Rattle.queue.specs.Event.{Event as NextEvent}
+use Rattle.queue.specs.Event.{Nothing, Note, Unit, Refused}
 use Rattle.queue.specs.declared.event.Given.{Given}
 use Rattle.queue.specs.Waiting.{Give, Nothing as NoUnit, One, Many, Aggregate, Queue, Taken}
 use Rattle.queue.specs.declared.located.Located.{Located}
-use Rattle.delivery.specs.declared.packet.Arrived.{Arrived}
-use Rattle.delivery.specs.declared.packet.Arrived.TheVariants.{Silent, Noted, Good}
-use Rattle.delivery.specs.declared.cursor.Found.{Found}
-use Rattle.delivery.specs.declared.cursor.Found.TheVariants.{Event, Packet, Tail, Done}
-use Rattle.delivery.specs.declared.cursor.Advanced.{Advanced}
+use Rattle.delivery.specs.Arrived.{Arrived, Silent, Noted, Good}
+use Rattle.delivery.specs.Found.{Found}
+use Rattle.delivery.specs.Found.{Event, Packet, Tail, Done}
+use Rattle.delivery.specs.Found.{Advanced}
 use Rattle.queue.specs.Located.{whole_given, unit_len}
 use Rattle.delivery.specs.Packet.{wholes_of, give_of, unit_in, bytes_at, base_of, step_of, piece_from, joined_of, arrived_at}
 use Rattle.mmtp.specs.Unit.{Inside}
@@ -36,8 +36,6 @@ use Rattle.delivery.specs.Within.{Below}
 use Rattle.delivery.proofs.WithinLaws.{first-inside, joined-below, arrived-fits, length-joined}
 use Rattle.queue.specs.Queue.{event_taken, next_unit}
 use Rattle.queue.proofs.QueueLaws.{taken-note, taken-over, taken-nothing, taken-one, taken_many}
-use Rattle.tlv.specs.declared.packet.Next.{Next}
-use Rattle.tlv.specs.declared.packet.Next.TheVariants.{Packet as PacketTo, Tail as TailAt}
 use Rattle.tlv.specs.Packet.{packet_at, too_long}
 use Rattle.intake.specs.declared.held.Cursor.{Cursor}
 use Rattle.delivery.specs.Cursor.{turn_of, left, is_event, advanced_by, slot_advanced, tail_advanced, advanced_of}
@@ -151,10 +149,10 @@ FoundLies (Packet s e) p c = Prim.Unit {0}
 FoundLies (Tail s n) p c = Prim.Unit {0}
 FoundLies Done p c = Prim.Unit {0}
 
-by-slot : (x : Next) (cur : Cursor) (s p c : List ℕ) → FoundLies (advanced_by x cur s).found p c
+by-slot : (x : Option ℕ) (cur : Cursor) (s p c : List ℕ) → FoundLies (advanced_by x cur s).found p c
 unfolding tail_advanced
-by-slot (PacketTo e) cur s p c = tt
-by-slot TailAt cur s p c = either (λ (f : Found). FoundLies f p c) (too_long (drop cur.at s)) tt tt
+by-slot (Some e) cur s p c = tt
+by-slot None cur s p c = either (λ (f : Found). FoundLies f p c) (too_long (drop cur.at s)) tt tt
 
 advanced_lies : (cur : Cursor) (p c : List ℕ) → FoundLies (advanced_of cur p).found p c
 unfolding advanced_of slot_advanced

@@ -5,11 +5,10 @@ use Rattle.std.proofs.Math.Path.{ap}
 use Rattle.wire.proofs.Choice.{chosen, chosen-not, neither}
 use Rattle.words.specs.Config.{KeptConfig}
 use Rattle.reassembly.specs.Channel.{unheard}
-use Rattle.queue.specs.declared.event.Event.TheVariants.{Nothing, Refused}
+use Rattle.queue.specs.Event.{Nothing, Refused}
 use Rattle.state.specs.State.{State, with_queue, with_channels}
 use Rattle.queue.specs.declared.located.Located.{Located}
-use Rattle.delivery.specs.declared.packet.Arrived.{Arrived}
-use Rattle.delivery.specs.declared.packet.Arrived.TheVariants.{Silent, Noted, Good}
+use Rattle.delivery.specs.Arrived.{Arrived, Silent, Noted, Good}
 use Rattle.mmtp.specs.declared.note.PacketNote.{PacketNote}
 use Rattle.intake.specs.Slot.{packet_memory}
 use Rattle.frames.specs.Slot.{short_by}

@@ -4,16 +4,15 @@ use Rattle.std.proofs.Math.Path.{refl}
 use Rattle.std.proofs.Common.{sym, ◌∙◌, ap, arith}
 use Rattle.std.proofs.lemmas.List.{set-get_or}
 use Rattle.reassembly.specs.Channel.{unheard}
-use Rattle.queue.specs.declared.event.Event.{Event as AnEvent}
-use Rattle.queue.specs.declared.event.Event.TheVariants.{Nothing}
+use Rattle.queue.specs.Event.{Event as AnEvent}
+use Rattle.queue.specs.Event.{Nothing}
 use Rattle.state.specs.State.{State, with_owed, with_slot, with_queue, with_channels}
-use Rattle.delivery.specs.declared.packet.Arrived.{Arrived}
-use Rattle.delivery.specs.declared.packet.Arrived.TheVariants.{Silent, Noted, Good}
+use Rattle.delivery.specs.Arrived.{Arrived, Silent, Noted, Good}
 use Rattle.delivery.specs.Packet.{JoinedPacket, arrived_at, place_of, received_of}
 use Rattle.delivery.specs.Cursor.{Turn, turn_of, left}
 use Rattle.delivery.proofs.CursorLaws.{turn-less}
-use Rattle.delivery.specs.declared.cursor.Found.{Found}
-use Rattle.delivery.specs.declared.cursor.Found.TheVariants.{Event, Packet, Tail, Done}
+use Rattle.delivery.specs.Found.{Found}
+use Rattle.delivery.specs.Found.{Event, Packet, Tail, Done}
 use Rattle.intake.specs.Slot.{holding}
 use Rattle.delivery.proofs.WithinLaws.{arrived-fits, length-received}
 use Rattle.frames.specs.Slot.{short_by}

@@ -9,10 +9,10 @@ use Rattle.words.specs.Channel.{read_channel}
 use Rattle.intake.specs.Slot.{holding}
 use Rattle.words.specs.Cursor.{held_words, read_cursor}
 use Rattle.words.proofs.CursorLaws.{cursor-same}
-use Rattle.queue.specs.declared.event.Event.{Event as AnEvent}
-use Rattle.queue.specs.declared.event.Event.TheVariants.{Nothing}
-use Rattle.delivery.specs.declared.cursor.Found.{Found}
-use Rattle.delivery.specs.declared.cursor.Found.TheVariants.{Event, Packet, Tail, Done}
+use Rattle.queue.specs.Event.{Event as AnEvent}
+use Rattle.queue.specs.Event.{Nothing}
+use Rattle.delivery.specs.Found.{Found}
+use Rattle.delivery.specs.Found.{Event, Packet, Tail, Done}
 use Rattle.delivery.specs.Packet.{JoinedPacket, arrived_at, place_of, received_of}
 use Rattle.delivery.specs.Cursor.{advanced_of, is_event, left}
 use Rattle.delivery.proofs.CursorLaws.{turn-event, turn_on, goes_on, turn-less}
@@ -21,7 +21,7 @@ use Rattle.queue.specs.Words.{read_queue, Takes}
 use Rattle.delivery.specs.Words.{channel_place, Receives}
 use Rattle.state.specs.State.{State, with_owed, with_slot, with_queue, with_channels}
 use Rattle.state.specs.Words.{state_in, Moves}
-use Rattle.receiver.specs.Next.{answered, past, read_all}
+use Rattle.receiver.specs.Next.{answered, read_all}
 use Rattle.receiver.proofs.ReadOnLaws.{read-event, read-received, read-tail, read_done}
 use Rattle.state.proofs.LentLaws.{kept_words, state-held, state-cursor, state-queue, state-owed, state-packet, packet-comes, cursor_in, queue_in}
 use Rattle.receiver.specs.Turns.{turn_in, Turned}

@@ -1,23 +1,22 @@
 -- Reading on never answers a refusal.
+use Rattle.std.specs.Prelude.{Option, Some, None}
 use Prim.Native.Nat.{ℕ, zero, suc, ◌-◌}
 use mathlib.Core.List.{List}
 use lib.ListN.{drop}
 use lib.Dec.{eqb}
 use Rattle.wire.proofs.Choice.{either}
 use Rattle.wire.specs.Memory.{part_of}
-use Rattle.tlv.specs.declared.packet.Next.{Next as TlvNext}
-use Rattle.tlv.specs.declared.packet.Next.TheVariants.{Packet as PacketTo, Tail as TailAt}
 use Rattle.tlv.specs.Packet.{packet_at, too_long}
 use Rattle.mmtp.specs.declared.unit.Step.{Step}
 use Rattle.mmtp.specs.declared.unit.Step.TheVariants.{Unit as UnitAt, Malformed, End}
 use Rattle.mmtp.specs.Unit.{unit_at}
 use Rattle.intake.specs.declared.held.Cursor.{Cursor}
-use Rattle.queue.specs.declared.event.Event.{Event}
-use Rattle.queue.specs.declared.event.Event.TheVariants.{Nothing, Note, Unit, Refused}
+use Rattle.queue.specs.Event.{Event}
+use Rattle.queue.specs.Event.{Nothing, Note, Unit, Refused}
 use Rattle.queue.specs.Waiting.{Aggregate, Give, Nothing as NoUnit, One, Many, Queue, Taken}
-use Rattle.delivery.specs.declared.cursor.Found.{Found}
-use Rattle.delivery.specs.declared.cursor.Found.TheVariants.{Event as AnEvent, Packet, Tail, Done}
-use Rattle.delivery.specs.declared.cursor.Advanced.{Advanced}
+use Rattle.delivery.specs.Found.{Found}
+use Rattle.delivery.specs.Found.{Event as AnEvent, Packet, Tail, Done}
+use Rattle.delivery.specs.Found.{Advanced}
 use Rattle.queue.specs.Queue.{give_by, many_by, event_taken}
 use Rattle.delivery.specs.Cursor.{tail_advanced, advanced_by, slot_advanced, advanced_of, turn_by, turn_of}
 use Rattle.state.specs.State.{State}
@@ -58,9 +57,9 @@ by-tail : (s : List ℕ) (at end : ℕ) → FoundGood (tail_advanced s at end).f
 unfolding tail_advanced
 by-tail s at end = either FoundGood (too_long (drop at s)) tt tt
 
-by-slot : (x : TlvNext) (c : Cursor) (s : List ℕ) → FoundGood (advanced_by x c s).found
-by-slot (PacketTo e) c s = tt
-by-slot TailAt c s = by-tail s c.at c.end
+by-slot : (x : Option ℕ) (c : Cursor) (s : List ℕ) → FoundGood (advanced_by x c s).found
+by-slot (Some e) c s = tt
+by-slot None c s = by-tail s c.at c.end
 
 advanced_good : (c : Cursor) (p : List ℕ) → FoundGood (advanced_of c p).found
 unfolding advanced_of slot_advanced

@@ -3,7 +3,7 @@
 -- ends is what the prover shows of each function.
 use Rattle.std.specs.Prelude.{ℕ, ◌+◌, ◌≤◌, ◌<◌, ◌≡◌, true, List, [], length, take, drop}
 use Rattle.reassembly.specs.declared.config.Config.{Config}
-use Rattle.queue.specs.declared.event.Event.TheVariants.{Refused}
+use Rattle.queue.specs.Event.{Refused}
 use Rattle.queue.specs.declared.event.Place.{Place}
 use Rattle.state.specs.State.{State}
 use Rattle.state.specs.Refused.{IsRefused, Kept}

@@ -1,6 +1,6 @@
 -- Examples of next and show, computed over the definitions.
 use Rattle.std.specs.Prelude.{◌≡◌, [], ◌∷◌}
-use Rattle.queue.specs.declared.event.Event.TheVariants.{Refused}
+use Rattle.queue.specs.Event.{Refused}
 use Rattle.queue.specs.declared.event.Memory.TheVariants.{Packet, Collecting}
 use Rattle.state.specs.Examples.{due}
 use Rattle.receiver.specs.Next.{answered, next_of}

@@ -1,13 +1,12 @@
 -- Next: it reads on, one event a call, until nothing waits.
 use Rattle.std.specs.Prelude.{ℕ, zero, suc, false, cond, List, length, get_or, set}
 use Rattle.reassembly.specs.Channel.{unheard}
-use Rattle.queue.specs.declared.event.Event.{Event as AnEvent}
-use Rattle.queue.specs.declared.event.Event.TheVariants.{Nothing, Refused}
+use Rattle.queue.specs.Event.{Event as AnEvent}
+use Rattle.queue.specs.Event.{Nothing, Refused}
 use Rattle.state.specs.State.{Answer, State, with_owed, with_slot, with_queue, with_channels}
-use Rattle.delivery.specs.declared.packet.Arrived.{Arrived}
-use Rattle.delivery.specs.declared.packet.Arrived.TheVariants.{Silent, Noted, Good}
-use Rattle.delivery.specs.declared.cursor.Found.{Found}
-use Rattle.delivery.specs.declared.cursor.Found.TheVariants.{Event, Packet, Tail, Done}
+use Rattle.delivery.specs.Arrived.{Arrived, Silent, Noted, Good}
+use Rattle.delivery.specs.Found.{Found}
+use Rattle.delivery.specs.Found.{Event, Packet, Tail, Done}
 use Rattle.delivery.specs.Cursor.{Turn, turn_of, left}
 use Rattle.intake.specs.Slot.{holding}
 use Rattle.frames.specs.Slot.{short_by}

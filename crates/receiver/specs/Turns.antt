@@ -1,6 +1,6 @@
 -- One turn of reading on, over the words: what the queue gives or the cursor comes to, and what that leaves to read.
 use Rattle.std.specs.Prelude.{ℕ, ◌≡◌, List}
-use Rattle.delivery.specs.declared.cursor.Found.{Found}
+use Rattle.delivery.specs.Found.{Found}
 use Rattle.delivery.specs.Cursor.{Turn, turn_of}
 use Rattle.state.specs.Words.{state_in}
 use Rattle.receiver.specs.Next.{past}

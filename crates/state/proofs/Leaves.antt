@@ -6,8 +6,8 @@ use Rattle.wire.proofs.WordsLaws.{put-within}
 use Rattle.intake.specs.declared.held.Intake.{Intake}
 use Rattle.words.specs.Cursor.{held_words, CursorStored}
 use Rattle.words.proofs.CursorLaws.{cursor-put}
-use Rattle.queue.specs.declared.event.Event.{Event}
-use Rattle.queue.specs.declared.event.Event.TheVariants.{Refused}
+use Rattle.queue.specs.Event.{Event}
+use Rattle.queue.specs.Event.{Refused}
 use Rattle.state.specs.State.{State, Called, Answer, with_slot, with_intake, refused, accepted}
 use Rattle.state.specs.Words.{state_words, state_in, Leaves, Answers, Sets}
 use Rattle.state.proofs.LentLaws.{state-held, state-cursor}

@@ -12,7 +12,7 @@ use Rattle.wire.specs.Tab.{tab}
 use Rattle.wire.proofs.TabLaws.{below_one, tab-same, length-tab, get_or-tab, tab-list}
 use Rattle.wire.specs.Words.{Holds, Zeros, Put, Within, Beside, Same, flag_of}
 use Rattle.wire.proofs.WordsLaws.{put-within, within-set, flag-back}
-use Rattle.tmcc.specs.declared.layout.Layout.{Layout}
+use Rattle.tmcc.specs.Layout.{Layout}
 use Rattle.tmcc.specs.declared.layout.Pointers.{Pointers}
 use Rattle.tmcc.specs.Layout.{blank_layout}
 use Rattle.reassembly.specs.declared.config.Config.{Config}

@@ -1,14 +1,12 @@
 -- Laws of specs/Start.antt.
 use Prim.Native.Nat.{ℕ, zero, suc, min, ◌+◌, ◌<◌, ◌≤◌}
-use Rattle.std.specs.Prelude.{◌≡◌, Bool, ◌||◌, List, get_or, ltb}
+use Rattle.std.specs.Prelude.{◌≡◌, Bool, ◌||◌, List, get_or, ltb, Option, Some, None}
 use Rattle.std.proofs.Math.Path.{refl}
 use Rattle.std.proofs.Common.{sym, ◌∙◌, add-one, arith}
 use Rattle.std.proofs.Math.Bool.{true, false, or-true}
 use borrow.Author.Tests.{le-ltb, eq-eqb, ne_eqb, eqb-true, eqb-false, ltb-false}
 use Rattle.std.proofs.Math.Dec.{eqb}
 use Rattle.watch.specs.declared.given.Watch.{Watch}
-use Rattle.watch.specs.declared.given.Found.{Found}
-use Rattle.watch.specs.declared.given.Found.TheVariants.{At, Nothing}
 use Rattle.watch.specs.Given.{lookup_of, Distinct}
 use Rattle.watch.proofs.GivenLaws.{lookup_at, lookup_none}
 use Rattle.reassembly.specs.declared.config.Config.{Config}
@@ -52,11 +50,11 @@ module _ (ids : List ℕ) where
       go true t f = rw (← eqb-true k m t, e) (or-true (twice_below ids k))
       go false t f = let n = eqb-false k m t in rw (f (omega arith))
 
-  pub before_hit : (k j : ℕ) → lookup_of (record { ids = ids; n = k }) (get_or ids k 0) ≡ At j → before ids k ≡ true
+  pub before_hit : (k j : ℕ) → lookup_of (record { ids = ids; n = k }) (get_or ids k 0) ≡ Some j → before ids k ≡ true
   unfolding before
   before_hit k j e = rw e
 
-  pub before-none : (k : ℕ) → lookup_of (record { ids = ids; n = k }) (get_or ids k 0) ≡ Nothing → before ids k ≡ false
+  pub before-none : (k : ℕ) → lookup_of (record { ids = ids; n = k }) (get_or ids k 0) ≡ None → before ids k ≡ false
   unfolding before
   before-none k e = rw e
 
@@ -68,9 +66,9 @@ module _ (ids : List ℕ) where
       w : Watch
       w = record { ids = ids; n = j }
 
-      go : (f : Found) → lookup_of w (get_or ids j 0) ≡ f → ⊥
-      go (At k) r = let z = sym (twice_hit j n g (before_hit j k r)) ∙ e in let y : ◌≡◌ {A = ℕ} 0 1 = cc in omega arith
-      go Nothing r = lookup_none w (get_or ids j 0) r i (omega arith) h q
+      go : (f : Option ℕ) → lookup_of w (get_or ids j 0) ≡ f → ⊥
+      go (Some k) r = let z = sym (twice_hit j n g (before_hit j k r)) ∙ e in let y : ◌≡◌ {A = ℕ} 0 1 = cc in omega arith
+      go None r = lookup_none w (get_or ids j 0) r i (omega arith) h q
 
   -- and the other way round
   pub distinct-once : (n : ℕ) → Distinct ids n → twice_below ids n ≡ false
@@ -81,9 +79,9 @@ module _ (ids : List ℕ) where
       w : Watch
       w = record { ids = ids; n = k }
 
-      go : (f : Found) → lookup_of w (get_or ids k 0) ≡ f → before ids k ≡ false
-      go (At j) r = let p = lookup_at w (get_or ids k 0) j r in absurd (d j k p.1 (omega arith) p.2)
-      go Nothing r = before-none k r
+      go : (f : Option ℕ) → lookup_of w (get_or ids k 0) ≡ f → before ids k ≡ false
+      go (Some j) r = let p = lookup_at w (get_or ids k 0) j r in absurd (d j k p.1 (omega arith) p.2)
+      go None r = before-none k r
 
 pub starts : (c : Config) → start_refusal c ≡ 0 → Starts c
 unfolding start_refusal twice

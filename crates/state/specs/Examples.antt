@@ -1,6 +1,5 @@
 -- Examples of start, computed over the definitions: refusals in the table's order.
-use Rattle.std.specs.Prelude.{ℕ, ◌≡◌, [], ◌∷◌, replicate}
-use Rattle.watch.specs.declared.given.Found.TheVariants.{At, Nothing}
+use Rattle.std.specs.Prelude.{ℕ, ◌≡◌, [], ◌∷◌, replicate, Some, None}
 use Rattle.watch.specs.Rising.{search_of}
 use Rattle.reassembly.specs.declared.config.Config.{Config}
 use Rattle.tmcc.specs.Layout.{blank_layout}
@@ -34,5 +33,5 @@ Keeps =
     (start_refusal falling ≡ 0)
     × ((fresh_state falling).config.watch.list
     ≡ record { id = 3; place = 2 } ∷ record { id = 7; place = 1 } ∷ record { id = 9; place = 0 } ∷ [])
-    × (search_of (fresh_state falling).config.watch 3 ≡ At 2) × (search_of (fresh_state falling).config.watch 7 ≡ At 1)
-    × (search_of (fresh_state falling).config.watch 9 ≡ At 0) × (search_of (fresh_state falling).config.watch 8 ≡ Nothing)
+    × (search_of (fresh_state falling).config.watch 3 ≡ Some 2) × (search_of (fresh_state falling).config.watch 7 ≡ Some 1)
+    × (search_of (fresh_state falling).config.watch 9 ≡ Some 0) × (search_of (fresh_state falling).config.watch 8 ≡ None)

@@ -3,7 +3,7 @@ use Rattle.std.specs.Prelude.{ℕ, ◌*◌, ◌<◌, ◌≡◌, List}
 use Rattle.std.proofs.Math.Bool.{false}
 use Rattle.std.proofs.Math.ListN.{get_or}
 use Rattle.wire.specs.Words.{Within}
-use Rattle.tmcc.specs.declared.layout.Layout.{Layout}
+use Rattle.tmcc.specs.Layout.{Layout}
 use Rattle.state.specs.Words.{pointers_in, length_in, own_in, CleanSlot}
 
 -- the slots of a layout that are put one by one: slot k is there

@@ -1,11 +1,9 @@
 -- Start: refusals 1 to 4 in this order, or a fresh receiver.
 use Prim.Native.Nat.{ℕ, zero, suc, min, ◌≤◌}
-use Rattle.std.specs.Prelude.{Bool, cond, ◌||◌, List, get_or, replicate, ltb}
+use Rattle.std.specs.Prelude.{Bool, cond, ◌||◌, List, get_or, replicate, ltb, Option, Some, None}
 use Rattle.std.proofs.Math.Bool.{true, false}
 use Rattle.std.proofs.Math.Dec.{eqb}
 use Rattle.watch.specs.declared.given.Watch.{Watch}
-use Rattle.watch.specs.declared.given.Found.{Found}
-use Rattle.watch.specs.declared.given.Found.TheVariants.{At, Nothing}
 use Rattle.watch.specs.Given.{lookup_of, Distinct}
 use Rattle.reassembly.specs.declared.config.Config.{Config}
 use Rattle.reassembly.specs.Channel.{unheard}
@@ -15,9 +13,9 @@ use Rattle.words.specs.Config.{kept_config}
 use Rattle.intake.specs.Slot.{searching, noted}
 use Rattle.queue.specs.Queue.{empty}
 
-abbrev pub is_at : Found → Bool
-is_at (At k) = true
-is_at Nothing = false
+abbrev pub is_at : Option ℕ → Bool
+is_at (Some k) = true
+is_at None = false
 
 -- the id at place k stands before it too
 unfoldable pub before : List ℕ → ℕ → Bool

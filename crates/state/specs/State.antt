@@ -5,9 +5,9 @@ use Rattle.intake.specs.declared.held.Held.{Held}
 use Rattle.intake.specs.declared.held.Cursor.{Cursor}
 use Rattle.intake.specs.declared.held.Intake.{Intake}
 use Rattle.queue.specs.Waiting.{Queue}
-use Rattle.queue.specs.declared.event.Event.{Event}
+use Rattle.queue.specs.Event.{Event}
 use Rattle.words.specs.Config.{KeptConfig}
-use Rattle.tmcc.specs.declared.layout.Layout.{Layout}
+use Rattle.tmcc.specs.Layout.{Layout}
 
 -- the frame: its layout, and the next slot, counted from 0; 120 where none is due
 pub record Frame : Type 0 where

@@ -1,12 +1,11 @@
 -- The watch list of a started receiver: kept in rising order, it answers as a search in the order given.
-use Rattle.std.specs.Prelude.{ℕ, ◌*◌, ◌≡◌, List, length}
-use Rattle.watch.specs.declared.given.Found.TheVariants.{At}
+use Rattle.std.specs.Prelude.{ℕ, ◌*◌, ◌≡◌, List, length, Some}
 use Rattle.watch.specs.Given.{lookup_of}
 use Rattle.watch.specs.Rising.{Rises, search_of}
 use Rattle.reassembly.specs.declared.config.Config.{Config}
 use Rattle.words.specs.Config.{KeptConfig}
 use Rattle.queue.specs.declared.located.Located.{Located}
-use Rattle.delivery.specs.declared.packet.Arrived.TheVariants.{Good}
+use Rattle.delivery.specs.Arrived.{Good}
 use Rattle.delivery.specs.Packet.{comes_to, arrived_at, base_of}
 use Rattle.state.specs.State.{State}
 use Rattle.state.specs.Start.{start_from}
@@ -23,7 +22,7 @@ pub record InOrderGiven (c : Config) (kept : KeptConfig) : Type 0 where
   pub packet : (p : List ℕ) (start end : ℕ) → arrived_at kept p start end ≡ comes_to c.cid (lookup_of c.watch) p start end
   -- "and where it collects": id k of the list given from k × R on
   pub collects : (p : List ℕ) (start end : ℕ) (l : Located) → arrived_at kept p start end ≡ Good l
-      → (k : ℕ) × (lookup_of c.watch l.packet.packet_id ≡ At k) × (base_of l kept.rules.limit ≡ k * c.rules.limit)
+      → (k : ℕ) × (lookup_of c.watch l.packet.packet_id ≡ Some k) × (base_of l kept.rules.limit ≡ k * c.rules.limit)
 
 -- document 02, item 8: "The answer for each packet_id, and where it collects, is shown equal to a search in the order given, for every
 -- list that start accepts"; st is what stood in the words before

@@ -3,15 +3,15 @@
 use Rattle.std.specs.Prelude.{ℕ, ◌+◌, ◌*◌, ◌%◌, ◌<◌, ◌≤◌, ◌≡◌, Bool, List, [], ◌∷◌, length, get_or}
 use Rattle.wire.specs.Tab.{tab}
 use Rattle.wire.specs.Words.{Holds, Put, Within, flag_of, flag_word}
-use Rattle.tmcc.specs.declared.layout.Layout.{Layout}
+use Rattle.tmcc.specs.Layout.{Layout}
 use Rattle.tmcc.specs.declared.layout.Pointers.{Pointers}
 use Rattle.reassembly.specs.declared.channel.Channel.{Channel}
 use Rattle.words.specs.Config.{read_config, config_words}
 use Rattle.words.specs.Channel.{read_channel}
 use Rattle.words.specs.Cursor.{read_held, held_words, read_cursor, cursor_words}
-use Rattle.queue.specs.declared.event.Event.{Event}
-use Rattle.queue.specs.declared.event.Event.TheVariants.{Refused}
-use Rattle.delivery.specs.declared.cursor.Found.{Found}
+use Rattle.queue.specs.Event.{Event}
+use Rattle.queue.specs.Event.{Refused}
+use Rattle.delivery.specs.Found.{Found}
 use Rattle.delivery.specs.Cursor.{advanced_of}
 use Rattle.queue.specs.Words.{read_queue, CleanQueue}
 use Rattle.delivery.specs.Words.{channel_place, CleanChannel}

@@ -1,58 +1,47 @@
 // Start: a fresh receiver, or refusals 1 to 4.
 ghost use Rattle.std.specs.Prelude.{◌≡◌, ◌≤◌, length};
+ghost use Rattle.refusal.specs.Refusal.{answer};
 ghost use Rattle.state.specs.Words.{state_words, state_in, Starts, Fresh, Cleared};
 ghost use Rattle.state.specs.Start.{twice, fresh_state, start_refusal, start_from};
 
 use crate::places::{AT, CONFIG, STATE_WORDS};
 use reassembly::config::Config;
-use watch::given::{Found, Watch, lookup};
+use refusal::Refusal;
+use watch::given::{Watch, lookup};
 use words::config::store_config;
 
 // Whether an id stands twice among the first `n`, at most 16.
 fn has_twice(watch: Watch, n: usize) -> bool
     ensures { result ≡ twice watch n }
 {
-    let ids = watch.ids;
-    let mut k = 0;
-    while k < 16 {
-        if n <= k {
-            return false;
-        }
-        let found = lookup(Watch { ids, n: k }, ids[k]);
-        if let Found::At(_) = found {
+    for k in 0..n.min(16) {
+        if lookup(Watch { n: k, ..watch }, watch.ids[k]).is_some() {
             return true;
         }
-        k += 1;
     }
     false
 }
 
-fn refusal(config: Config) -> u8
-    ensures { result ≡ start_refusal config }
+// Refusals 1 to 4.
+#[tactic(auto, using(std::proofs::lemmas::Bool::Decides::nat_tests), unfolding(crate::specs::Start::start_refusal))]
+fn check(config: Config) -> Result<(), Refusal>
+    ensures { answer result ≡ start_refusal config }
 {
     let watch = config.watch;
-    let n = watch.n;
-    if n < 1 {
-        return 1;
+    if watch.n < 1 || 16 < watch.n {
+        return Err(Refusal::WatchedCount);
     }
-    if 16 < n {
-        return 1;
-    }
-    if has_twice(watch, n) {
-        return 2;
+    if has_twice(watch, watch.n) {
+        return Err(Refusal::WatchedTwice);
     }
     if 4095 < config.cid {
-        return 3;
+        return Err(Refusal::ContextId);
     }
-    let rules = config.rules;
-    let limit = rules.limit;
-    if limit < 1 {
-        return 4;
+    let limit = config.rules.limit;
+    if limit < 1 || 1048576 < limit {
+        return Err(Refusal::Limit);
     }
-    if 1048576 < limit {
-        return 4;
-    }
-    0
+    Ok(())
 }
 
 // 0 in each of the receiver's words; those behind stay as they were.
@@ -60,11 +49,7 @@ fn clear(words: &mut [u64])
     requires { state_words ≤ length words.old }
     ensures { Cleared words.old words.new }
 {
-    let mut i = 0;
-    while i < STATE_WORDS {
-        words[i] = 0;
-        i += 1;
-    }
+    words[..STATE_WORDS].fill(0);
 }
 
 // A receiver that has read nothing.
@@ -77,15 +62,13 @@ pub fn put_fresh(words: &mut [u64], config: Config)
     words[AT] = 120;
 }
 
-pub fn start(config: Config, words: &mut [u64]) -> u8
-    ensures { Starts words.old result words.new (start_from (state_in words.old) config) }
+pub fn start(config: Config, words: &mut [u64]) -> Result<(), Refusal>
+    ensures { Starts words.old (answer result) words.new (start_from (state_in words.old) config) }
 {
     if words.len() < STATE_WORDS {
-        return 90;
+        return Err(Refusal::StateMemory);
     }
-    let refusal = refusal(config);
-    if refusal == 0 {
-        put_fresh(words, config);
-    }
-    refusal
+    check(config)?;
+    put_fresh(words, config);
+    Ok(())
 }

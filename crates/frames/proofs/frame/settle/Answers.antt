@@ -4,5 +4,4 @@ use Rattle.frames.proofs.frame.settle.Goals as goal
 
 pub returns : goal.returns
 returns c =
-    let d = c in
-    state_intake _ _ _ _ d.store_held.ensures d.store_cursor.ensures
+    state_intake _ _ _ _ c.store_held.ensures c.store_cursor.ensures

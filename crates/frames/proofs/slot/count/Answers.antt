@@ -21,11 +21,10 @@ bounds-words-21 c = simp length-set (omega arith)
 pub returns : goal.returns
 unfolding state_in counted flag_of
 returns c =
-    let s = c in
     record {
       state =
-          state-owed _ 1 (simp length-set (omega (arith, s.requires)))
-          ∙ ap (λ (x : State). with_owed x true) (state-at s.args.words.now _ (omega (arith, s.requires)));
+          state-owed _ 1 (simp length-set (omega (arith, c.requires)))
+          ∙ ap (λ (x : State). with_owed x true) (state-at c.args.words.now _ (omega (arith, c.requires)));
       exact =
-          exact-on _ _ _ (exact-at s.args.words.now _) (exact-owed _ true (simp length-set (omega (arith, s.requires))));
+          exact-on _ _ _ (exact-at c.args.words.now _) (exact-owed _ true (simp length-set (omega (arith, c.requires))));
     }

@@ -11,10 +11,11 @@ use Rattle.frames.proofs.slot.is_short.Goals as goal
 pub returns-then-packet : goal.returns-then-packet
 returns-then-packet c = sym (packet-short _ _ _ c.if-packet.true)
 
-pub returns-then-limit-eq0 : goal.returns-then-limit-eq0
+pub returns-then-limit-ne0 : goal.returns-then-limit-ne0
 unfolding state_in read_config rising_in
-returns-then-limit-eq0 c = sym (long-enough _ _ _ c.if-packet.false (rw (c.if-limit-eq0.true, mul-zero) (omega arith)))
+returns-then-limit-ne0 c = sym (short-by_quotient _ _ _ c.if-packet.false c.if-limit-ne0.true)
 
-pub returns : goal.returns
+pub returns-else-limit-ne0 : goal.returns-else-limit-ne0
 unfolding state_in read_config rising_in
-returns c = sym (short-by_quotient _ _ _ c.if-packet.false c.if-limit-eq0.false)
+returns-else-limit-ne0 c =
+    rw c.if-limit-ne0.false (sym (long-enough _ _ _ c.if-packet.false (rw mul-zero (omega arith))))

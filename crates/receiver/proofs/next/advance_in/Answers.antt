@@ -6,10 +6,8 @@ use Rattle.receiver.proofs.next.advance_in.Goals as goal
 
 pub returns : goal.returns
 returns c =
-    let d = c in
-    let a = d in
     record {
-      moved = rw (cursor-put _ _ _ _ d.store_cursor.ensures) (rw a.load_cursor.ensures at a.advance-advanced.ensures);
-      within = put-within _ _ _ _ _ d.store_cursor.ensures.put;
-      exact = exact-cursor _ _ _ d.store_cursor.ensures;
+      moved = rw (cursor-put _ _ _ _ c.store_cursor.ensures) (rw c.load_cursor.ensures at c.advance-advanced.ensures);
+      within = put-within _ _ _ _ _ c.store_cursor.ensures.put;
+      exact = exact-cursor _ _ _ c.store_cursor.ensures;
     }

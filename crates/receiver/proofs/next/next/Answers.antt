@@ -4,8 +4,8 @@ use mathlib.Core.List.{List}
 use mathlib.Core.Path.{◌≡◌, sym, ◌∙◌, ap, subst}
 use native.Mathlib.Omega.{arith}
 use Rattle.delivery.specs.Cursor.{left}
-use Rattle.queue.specs.declared.event.Event.TheVariants.{Refused}
-use Rattle.queue.specs.declared.event.Event.{Event}
+use Rattle.queue.specs.Event.{Refused}
+use Rattle.queue.specs.Event.{Event}
 use Rattle.state.proofs.LentLaws.{owed-on, owed_off}
 use Rattle.state.proofs.Leaves.{answers_short, answers_kept}
 use Rattle.receiver.specs.Next.{NextOut, read_all}
@@ -30,23 +30,19 @@ returns-then-is_short c =
 
 pub returns-then-words-eq0 : goal.returns-then-words-eq0
 returns-then-words-eq0 c =
-    let d = c in
-    answers_kept _ _ _ _ d.if-words-lt-STATE_WORDS.false
-    (next-idle _ _ _ (sym d.is_short.ensures ∙ d.if-is_short.false) (owed_off _ c.if-words-eq0.true))
+    answers_kept _ _ _ _ c.if-words-lt-STATE_WORDS.false
+    (next-idle _ _ _ (sym c.is_short.ensures ∙ c.if-is_short.false) (owed_off _ c.if-words-eq0.true))
 
 pub read_on-requires : goal.read_on-requires
 read_on-requires c =
-    let d = c in
-    (d.if-words-lt-STATE_WORDS.false, short-room _ _ _ (sym d.is_short.ensures ∙ d.if-is_short.false))
+    (c.if-words-lt-STATE_WORDS.false, short-room _ _ _ (sym c.is_short.ensures ∙ c.if-is_short.false))
 
 pub returns : goal.returns
 returns c =
     let r = c.read_on.ensures in
-    let o = c in
-    let d = o in
     record {
-      short = λ h. absurd (omega (arith, d.if-words-lt-STATE_WORDS.false));
-      long = λ h. r.answer ∙ sym (next-reads _ _ _ (sym d.is_short.ensures ∙ d.if-is_short.false) (owed-on _ o.if-words-eq0.false));
+      short = λ h. absurd (omega (arith, c.if-words-lt-STATE_WORDS.false));
+      long = λ h. r.answer ∙ sym (next-reads _ _ _ (sym c.is_short.ensures ∙ c.if-is_short.false) (owed-on _ c.if-words-eq0.false));
       kept = λ n e. absurd (read_answer _ _ _ _ n (ap (λ (x : NextOut). x.0.event) r.answer) e);
       exact = r.exact;
     }

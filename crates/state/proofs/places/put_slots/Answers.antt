@@ -1,55 +1,37 @@
-use Prim.Native.Nat.{ℕ, ◌-◌}
-use mathlib.Core.List.{List, map}
-use mathlib.Core.Path.{◌≡◌, sym, ◌∙◌}
+use Rattle.std.specs.Prelude.{ℕ, ◌≡◌, List, length, get_or, map}
+use Rattle.std.proofs.Math.Bool.{false}
+use Rattle.std.proofs.Math.ListN.{get_or-map, length-map}
 use native.Mathlib.Omega.{arith}
-use lib.ListN.{length, length-map}
-use Rattle.state.proofs.LentLaws.{slots-none, slots-more, slots-all}
 use borrow.Author.Rules.{rules}
+use Rattle.tmcc.specs.declared.layout.Slot.{Slot}
+use Rattle.tmcc.specs.declared.layout.Layout.{Layout}
+use Rattle.tmcc.specs.Layout.{as_layout}
+use Rattle.state.specs.Words.{SlotPut}
+use Rattle.state.proofs.LentLaws.{slots-none, slots-more, slots-all}
 use Rattle.state.proofs.places.put_slots.Goals as goal
 
--- the length of an array of structs
-unmapped : {X Y : Type 0} (f : X → Y) (l : List X) (n : ℕ) → length (map f l) ≡ n → length l ≡ n
-unmapped f l n e = sym (length-map l f) ∙ e
+abbrev blank : Slot
+blank = record { pointers = record { 0 = 0; 1 = 0 }; length = 0; own = false }
+
+-- slot s of a layout, as the definitions speak of it
+slot-of : (t u : List ℕ) (l : Layout) (s : ℕ) → let x = get_or l.slots s blank in let y = as_layout l in
+    SlotPut t u s x.pointers x.length x.own
+    → SlotPut t u s (get_or y.pointers s (record { 0 = 0; 1 = 0 })) (get_or y.lengths s 0) (get_or y.own s false)
+slot-of t u l s p =
+    rw (
+      get_or-map (λ (x : Slot). x.pointers) l.slots s blank,
+      get_or-map (λ (x : Slot). x.length) l.slots s blank,
+      get_or-map (λ (x : Slot). x.own) l.slots s blank,
+    )
+    p
 
 pub loop-s-init : goal.loop-s-init
-loop-s-init c = (omega arith, slots-none _ _)
-
-pub put_slot-requires : goal.put_slot-requires
-put_slot-requires c =
-    let l = c in
-    (omega arith, omega (arith, l.loop-s.invariant.1.within.size, l.requires))
+loop-s-init c = slots-none _ _
 
 pub loop-s-preserved : goal.loop-s-preserved
-loop-s-preserved c =
-    let l = c.loop-s in
-    (omega arith, slots-more _ _ _ _ _ l.invariant.1 c.put_slot.ensures)
-
-pub shape_of-t : goal.shape_of-t
-shape_of-t c = c.loop-s.invariant.1.within.size
+loop-s-preserved c = slots-more _ _ _ _ _ c.loop-s.invariant (slot-of _ _ c.args.layout _ c.put_slot.ensures)
 
 pub returns : goal.returns
 returns c =
-    let l = c.loop-s in
-    let e : l.s ≡ 120 = omega arith in
-    slots-all _ _ _ (search (rules, unmapped)) (search rules) (search rules) (rw e at l.invariant.1)
-
-pub offset_bounds-layout-s : goal.offset_bounds-layout-s
-offset_bounds-layout-s c = omega arith
-
-pub bounds-layout-s : goal.bounds-layout-s
-bounds-layout-s c = omega arith
-
-pub offset_bounds-layout-s-in-loop-s : goal.offset_bounds-layout-s-in-loop-s
-offset_bounds-layout-s-in-loop-s c = omega arith
-
-pub bounds-layout-s-in-loop-s : goal.bounds-layout-s-in-loop-s
-bounds-layout-s-in-loop-s c = omega arith
-
-pub bounds-layout-s-in-loop-s-2 : goal.bounds-layout-s-in-loop-s-2
-bounds-layout-s-in-loop-s-2 c = omega arith
-
-pub overflow_add-s : goal.overflow_add-s
-overflow_add-s c = omega arith
-
-pub loop-s-smaller : goal.loop-s-smaller
-loop-s-smaller c = omega arith
+    let e : c.loop-s.s ≡ 120 = omega arith in
+    slots-all _ _ _ (search (rules, length-map)) (search (rules, length-map)) (search (rules, length-map)) (rw e at c.loop-s.invariant)

@@ -7,18 +7,15 @@ use Rattle.state.proofs.start.put_fresh.Goals as goal
 
 pub shape_of-words : goal.shape_of-words
 shape_of-words c =
-    let d = c in
-    simp length-set (d.store_config.ensures.put.size ∙ d.clear.ensures.size)
+    simp length-set (c.store_config.ensures.put.size ∙ c.clear.ensures.size)
 
 pub returns : goal.returns
 returns c =
-    let d = c in
-    let e = d in
     record {
       sets =
           record {
-            state = state-fresh _ _ _ _ e.requires e.clear.ensures d.store_config.ensures;
-            exact = exact-fresh _ _ _ _ e.clear.ensures d.store_config.ensures;
+            state = state-fresh _ _ _ _ c.requires c.clear.ensures c.store_config.ensures;
+            exact = exact-fresh _ _ _ _ c.clear.ensures c.store_config.ensures;
           };
-      clean = fresh-clean _ _ _ _ e.clear.ensures d.store_config.ensures;
+      clean = fresh-clean _ _ _ _ c.clear.ensures c.store_config.ensures;
     }
