@@ -1,7 +1,7 @@
 -- No line of an event is longer than the longest.
 use Rattle.std.proofs.Common.{◌≤◌, length, arith}
-use Rattle.queue.specs.declared.event.Event.{Event}
-use Rattle.queue.specs.declared.event.Event.TheVariants.{Nothing, Note, Unit, Refused}
+use Rattle.queue.specs.Event.{Event}
+use Rattle.queue.specs.Event.{Nothing, Note, Unit, Refused}
 use Rattle.lines.specs.Line.{longest_line}
 use Rattle.lines.proofs.LineLaws.{unit_longest, note-89, refused-29}
 use Rattle.capture.specs.declared.session.Tally.{Tally}

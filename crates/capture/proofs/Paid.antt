@@ -1,19 +1,17 @@
 -- Where reading on comes to nothing, next is owed no more.
-use Rattle.std.specs.Prelude.{◌≡◌, ℕ, zero, suc, ◌<◌, Bool, true, false, List, drop, ◌==◌}
+use Rattle.std.specs.Prelude.{◌≡◌, ℕ, zero, suc, ◌<◌, Bool, true, false, List, drop, ◌==◌, Option, Some, None}
 use Rattle.std.proofs.Math.Path.{refl}
 use Rattle.std.proofs.Common.{sym, ◌∙◌, true≢false, arith}
 use Rattle.wire.specs.Memory.{part_of}
-use Rattle.tlv.specs.declared.packet.Next.{Next}
-use Rattle.tlv.specs.declared.packet.Next.TheVariants.{Packet as PacketTo, Tail as TailAt}
 use Rattle.tlv.specs.Packet.{packet_at, too_long}
 use Rattle.intake.specs.declared.held.Cursor.{Cursor}
 use Rattle.wire.proofs.Choice.{by_test}
-use Rattle.queue.specs.declared.event.Event.{Event as AnEvent}
-use Rattle.queue.specs.declared.event.Event.TheVariants.{Nothing, Note, Unit, Refused}
+use Rattle.queue.specs.Event.{Event as AnEvent}
+use Rattle.queue.specs.Event.{Nothing, Note, Unit, Refused}
 use Rattle.queue.specs.Waiting.{Queue}
-use Rattle.delivery.specs.declared.cursor.Found.{Found}
-use Rattle.delivery.specs.declared.cursor.Found.TheVariants.{Event, Packet, Tail, Done}
-use Rattle.delivery.specs.declared.cursor.Advanced.{Advanced}
+use Rattle.delivery.specs.Found.{Found}
+use Rattle.delivery.specs.Found.{Event, Packet, Tail, Done}
+use Rattle.delivery.specs.Found.{Advanced}
 use Rattle.queue.specs.Queue.{event_taken}
 use Rattle.delivery.specs.Cursor.{left, is_event, advanced_by, advanced_of, slot_advanced, tail_advanced, turn_by, turn_of}
 use Rattle.delivery.proofs.CursorLaws.{turn-less}
@@ -28,26 +26,26 @@ some (Packet start end) = true
 some (Tail start len) = true
 some Done = true
 
-abbrev Some : Advanced → Type 0
-Some a = some a.found ≡ true
+abbrev Gives : Advanced → Type 0
+Gives a = some a.found ≡ true
 
 module _ (q : Queue) (cur : Cursor) (p : List ℕ) where
-  slot-some : Some (slot_advanced cur p)
+  slot-some : Gives (slot_advanced cur p)
   unfolding slot_advanced tail_advanced
   slot-some = go (packet_at s cur.at)
     where
       s : List ℕ
       s = part_of p 0 cur.end
 
-      go : (n : Next) → Some (advanced_by n cur s)
-      go (PacketTo e) = refl
-      go TailAt = by_test (λ (f : Found). some f ≡ true) (too_long (drop cur.at s)) _ _ (λ e. refl) (λ e. refl)
+      go : (n : Option ℕ) → Gives (advanced_by n cur s)
+      go (Some e) = refl
+      go None = by_test (λ (f : Found). some f ≡ true) (too_long (drop cur.at s)) _ _ (λ e. refl) (λ e. refl)
 
-  advanced_some : Some (advanced_of cur p)
+  advanced_some : Gives (advanced_of cur p)
   unfolding advanced_of
   advanced_some =
-      by_test Some (cur.note == 0) _ _
-      (λ e. by_test Some (cur.packet == 0) _ _ (λ f. by_test Some cur.reading _ _ (λ g. slot-some) (λ g. refl)) (λ f. refl))
+      by_test Gives (cur.note == 0) _ _
+      (λ e. by_test Gives (cur.packet == 0) _ _ (λ f. by_test Gives cur.reading _ _ (λ g. slot-some) (λ g. refl)) (λ f. refl))
       (λ e. refl)
 
   turn-some : some (turn_of q cur p).found ≡ true

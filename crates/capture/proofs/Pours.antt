@@ -1,8 +1,8 @@
 -- Why pouring writes the first of the lines that are owed: each call of next writes its line behind the others.
 use Rattle.std.proofs.Common.{◌≡◌, ℕ, zero, suc, ◌+◌, ◌≤◌, Bool, true, false, ◌&&◌, List, [], ◌++◌, length, sym, refl, ◌∙◌, true≢false, append_assoc, append-nil, arith, length-append, leb-true}
 use mathlib.Core.Bool.{and-false, and-eq-true_iff}
-use Rattle.queue.specs.declared.event.Event.{Event}
-use Rattle.queue.specs.declared.event.Event.TheVariants.{Nothing, Note, Unit, Refused}
+use Rattle.queue.specs.Event.{Event}
+use Rattle.queue.specs.Event.{Nothing, Note, Unit, Refused}
 use Rattle.wire.proofs.Choice.{by_test}
 use Rattle.receiver.specs.Next.{next_of}
 use Rattle.capture.specs.Session.{Session, is_reading, busy, with_state, with_tally}

@@ -3,7 +3,7 @@ use Rattle.std.specs.Prelude.{◌≡◌, ℕ, suc, ◌<◌, true, false, cond, �
 use Rattle.std.proofs.Common.{sym, ◌∙◌, arith}
 use Rattle.std.proofs.Math.Bool.{and-eq-true_iff}
 use borrow.Author.Tests.{eq-eqb, ne_eqb}
-use Rattle.queue.specs.declared.event.Event.TheVariants.{Nothing}
+use Rattle.queue.specs.Event.{Nothing}
 use Rattle.state.specs.State.{Called}
 use Rattle.frames.specs.Slot.{short_by}
 use Rattle.receiver.specs.Next.{NextOut, read_all, next_of}

@@ -1,12 +1,10 @@
 -- Laws of specs/Waits.antt.
-use Rattle.std.specs.Prelude.{◌≡◌, ℕ, zero, suc, ◌+◌, ◌-◌, ◌*◌, ◌<◌, ◌≤◌, Bool, true, false, cond, List, length, drop, ◌==◌, nat_le}
+use Rattle.std.specs.Prelude.{◌≡◌, ℕ, zero, suc, ◌+◌, ◌-◌, ◌*◌, ◌<◌, ◌≤◌, Bool, true, false, cond, List, length, drop, ◌==◌, nat_le, Option, Some, None}
 use Rattle.std.proofs.Math.Path.{refl}
 use Rattle.std.proofs.Common.{sym, ◌∙◌, true≢false, mul-le-mul_right, suc-mul, lt_trans, arith, eqb-true}
 use Rattle.std.proofs.lemmas.Bool.{eqb-false}
 use Rattle.wire.specs.Memory.{part_of}
 use Rattle.wire.proofs.MemoryLaws.{part-within}
-use Rattle.tlv.specs.declared.packet.Next.{Next}
-use Rattle.tlv.specs.declared.packet.Next.TheVariants.{Packet as PacketTo, Tail as TailAt}
 use Rattle.tlv.specs.Packet.{packet_at, too_long}
 use Rattle.mmtp.specs.declared.unit.DataUnit.{DataUnit}
 use Rattle.mmtp.specs.declared.unit.Step.{Step}
@@ -16,9 +14,9 @@ use Rattle.mmtp.specs.Unit.{unit_at, data_unit, unit_fits}
 use Rattle.mmtp.proofs.UnitLaws.{unit-fits-end}
 use Rattle.intake.specs.declared.held.Cursor.{Cursor}
 use Rattle.queue.specs.Waiting.{Aggregate, Give, Nothing, One, Many, Queue, Taken}
-use Rattle.delivery.specs.declared.cursor.Found.{Found}
-use Rattle.delivery.specs.declared.cursor.Found.TheVariants.{Event, Packet, Tail, Done}
-use Rattle.delivery.specs.declared.cursor.Advanced.{Advanced}
+use Rattle.delivery.specs.Found.{Found}
+use Rattle.delivery.specs.Found.{Event, Packet, Tail, Done}
+use Rattle.delivery.specs.Found.{Advanced}
 use Rattle.queue.specs.Queue.{event_taken, next_unit}
 use Rattle.queue.proofs.QueueLaws.{taken-note, taken-over, taken-nothing, taken-one, taken_many}
 use Rattle.delivery.specs.Cursor.{one, span, left, is_event, advanced_of, slot_advanced, tail_advanced, turn_of}
@@ -133,14 +131,14 @@ module _ (cur : Cursor) (p : List ℕ) where
   tail-falls true e r = λ h. rw r (omega arith)
   tail-falls false e r = λ h. rw r (omega arith)
 
-  slot-falls : (n : Next) → packet_at (part_of p 0 cur.end) cur.at ≡ n → cur.note ≡ 0 → cur.packet ≡ 0 → cur.reading ≡ true
+  slot-falls : (n : Option ℕ) → packet_at (part_of p 0 cur.end) cur.at ≡ n → cur.note ≡ 0 → cur.packet ≡ 0 → cur.reading ≡ true
       → Less (slot_advanced cur p)
   unfolding cursor_waits
-  slot-falls (PacketTo e) h n k r =
+  slot-falls (Some e) h n k r =
       let l = advanced_less cur p (rw (advanced_slot cur p n k r, slot-packet cur p e h)) in
       let m = rw (advanced_slot cur p n k r, slot-packet cur p e h) at l in
       rw (slot-packet cur p e h) (λ g. omega arith)
-  slot-falls TailAt h n k r = rw (slot-tail cur p h) (tail-falls (too_long (drop cur.at (part_of p 0 cur.end))) refl r)
+  slot-falls None h n k r = rw (slot-tail cur p h) (tail-falls (too_long (drop cur.at (part_of p 0 cur.end))) refl r)
 
   reading-falls : (r : Bool) → cur.note ≡ 0 → cur.packet ≡ 0 → cur.reading ≡ r → Less (advanced_of cur p)
   reading-falls true n k e = rw (advanced_slot cur p n k e) (slot-falls (packet_at (part_of p 0 cur.end) cur.at) refl n k e)

@@ -1,8 +1,11 @@
 -- Laws of specs/Words.antt.
-use Rattle.std.specs.Prelude.{◌≡◌, ℕ, Bool, false, List, refl}
+use Rattle.std.specs.Prelude.{◌≡◌, ℕ, Bool, true, false, List, refl}
 use Rattle.std.proofs.Common.{ap}
-use Rattle.queue.specs.declared.event.Event.{Event}
-use Rattle.queue.specs.declared.event.Event.TheVariants.{Nothing, Note, Unit, Refused}
+use Rattle.queue.specs.Event.{Event, as_given}
+use Rattle.queue.specs.Event.{Nothing, Note, Unit, Refused}
+use Rattle.queue.specs.declared.event.Event.{Event as GivenEvent}
+use Rattle.queue.specs.declared.event.Event.TheVariants.{Note as ANote, Unit as AUnit}
+use Rattle.lines.specs.Line.{is_line}
 use Rattle.state.specs.State.{State, with_owed}
 use Rattle.state.specs.Words.{state_in}
 use Rattle.capture.specs.declared.session.Session.{Session as Values}
@@ -22,3 +25,8 @@ closed_in s t Nothing h = ap (λ (st : State). record { phase = s.phase; state =
 closed_in s t (Note n id) h = refl
 closed_in s t (Unit g) h = refl
 closed_in s t (Refused n) h = refl
+
+-- what next gives has a line of its own
+pub given_line : (e : GivenEvent) → is_line (as_given e) ≡ true
+given_line (ANote n id) = refl
+given_line (AUnit g) = refl

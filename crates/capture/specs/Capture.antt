@@ -1,7 +1,7 @@
 -- The text of a capture: from its bytes to its lines.
 use Rattle.std.specs.Prelude.{ℕ, zero, suc, Bool, true, false, cond, not, ◌&&◌, List, [], ◌++◌, length, take, drop, ◌==◌, slice_index}
-use Rattle.queue.specs.declared.event.Event.{Event}
-use Rattle.queue.specs.declared.event.Event.TheVariants.{Nothing, Note, Unit, Refused}
+use Rattle.queue.specs.Event.{Event}
+use Rattle.queue.specs.Event.{Nothing, Note, Unit, Refused}
 use Rattle.state.specs.State.{Called, State, with_owed, accepted}
 use Rattle.state.specs.Start.{start_from}
 use Rattle.frames.specs.Frame.{frame_of, lost_frame_of}

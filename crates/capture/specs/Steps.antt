@@ -1,6 +1,6 @@
 -- What the functions of a capture answer and leave: the definition's lines, written to a memory while there is room.
 use Rattle.std.specs.Prelude.{◌≡◌, ℕ, zero, suc, ◌+◌, Bool, true, false, cond, ◌&&◌, List, length, nat_le}
-use Rattle.queue.specs.declared.event.Event.{Event}
+use Rattle.queue.specs.Event.{Event}
 use Rattle.frames.specs.Slot.{short_by}
 use Rattle.receiver.specs.Next.{next_of}
 use Rattle.capture.specs.Session.{Progress, Session, busy, with_state, with_tally}

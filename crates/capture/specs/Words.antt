@@ -1,7 +1,7 @@
 -- What the functions of a capture answer and leave, the receiver's state being in words that the caller lends.
 use Rattle.std.specs.Prelude.{◌≡◌, ℕ, ◌<◌, ◌≤◌, List, length}
-use Rattle.queue.specs.declared.event.Event.{Event}
-use Rattle.queue.specs.declared.event.Event.TheVariants.{Nothing, Note, Unit, Refused}
+use Rattle.queue.specs.Event.{Event}
+use Rattle.queue.specs.Event.{Nothing, Note, Unit, Refused}
 use Rattle.state.specs.State.{Called}
 use Rattle.state.specs.Words.{state_words, state_in, Clean, Exact}
 use Rattle.capture.specs.declared.session.Session.{Session as Values}

@@ -15,26 +15,20 @@ use watch::given::Watch;
 pub fn begin(words: &mut [u64]) -> Session
     ensures { Begins words.old result words.new }
 {
+    let session = Session {
+        phase: Phase::Before,
+        tally: Tally::default(),
+    };
     if STATE_WORDS <= words.len() {
-        let watch = Watch { ids: [0; 16], n: 0 };
         let blank = Config {
             stream: 0,
             cid: 0,
-            watch,
+            watch: Watch { ids: [0; 16], n: 0 },
             rules: Rules { limit: 0 },
         };
         put_fresh(words, blank);
     }
-    let tally = Tally {
-        frames: 0,
-        slot: 0,
-        units: 0,
-        notes: 0,
-    };
-    Session {
-        phase: Phase::Before,
-        tally,
-    }
+    session
 }
 
 // The last line; nothing where there is no room for it.

@@ -1,8 +1,8 @@
 -- Laws of specs/Feed.antt.
-use Prim.Native.Nat.{ℕ, zero, suc, min, ◌+◌, ◌-◌, ◌<◌, ◌≤◌}
-use Rattle.std.specs.Prelude.{◌≡◌, Bool, true, false, cond, ◌&&◌, List, take, drop, eqb, ltb}
+use Prim.Native.Nat.{ℕ, zero, suc, min, max, ◌+◌, ◌-◌, ◌<◌, ◌≤◌}
+use Rattle.std.specs.Prelude.{◌≡◌, Option, Some, None, unwrap_or, Bool, true, false, cond, ◌&&◌, List, take, drop, eqb, ltb}
 use Rattle.std.proofs.Math.Path.{refl}
-use Rattle.std.proofs.Common.{◌∙◌, length-take, take-append-drop, length-take-le}
+use Rattle.std.proofs.Common.{ap, ◌∙◌, length-take, take-append-drop, length-take-le}
 use Rattle.std.proofs.Math.Bool.{not, and-false, and-eq-true_iff}
 use Rattle.std.proofs.Math.Nat.{add-sub_cancel_left}
 use native.Mathlib.Omega.{arith}
@@ -12,7 +12,8 @@ use Rattle.wire.specs.Memory.{pasted}
 use Rattle.wire.proofs.MemoryLaws.{length-pasted, pasted-take}
 use Rattle.wire.proofs.Choice.{by_test}
 use Rattle.capture.specs.Session.{Progress, Session}
-use Rattle.feeding.specs.declared.feed.Turn.{Turn}
+use Rattle.feeding.specs.Turn.{Turn, some_of, kept_turn, Stands}
+use Rattle.feeding.specs.declared.feed.Turn.{Turn as ValuesTurn}
 use Rattle.capture.specs.Command.{longest_command, size_of}
 use Rattle.capture.proofs.CommandLaws.{size_none, size-grows, size-kept, front-whole}
 use Rattle.capture.specs.Steps.{roomy, acted_of, poured_of}
@@ -92,6 +93,46 @@ module _ (b : List ℕ) where
       pub whole-known : size_of b ≤ length b → whole_size b ≡ size_of b
       unfolding whole_size
       whole-known h = rw (ne_eqb _ _ o, ne_eqb _ _ k, le-ltb _ _ h)
+
+-- the first byte of an unknown command stands for it
+module _ (b : List ℕ) (n : ℕ) (e : n ≡ max (size_of b) 1) where
+  pub whole_fits : n ≤ length b → whole_size b ≡ n
+  whole_fits h = go (eqb (size_of b) 0) refl
+    where
+      o : length b ≡ 0 → ⊥
+      o z = omega arith
+
+      go : (t : Bool) → eqb (size_of b) 0 ≡ t → whole_size b ≡ n
+      go true f = let z = eqb-true (size_of b) 0 f in whole_unknown b o z ∙ omega arith
+      go false f = let z = eqb-false (size_of b) 0 f in whole-known b o z (omega arith) ∙ omega arith
+
+  pub whole_over : length b < n → whole_size b ≡ 0
+  whole_over h = go (eqb (length b) 0) refl
+    where
+      go : (t : Bool) → eqb (length b) 0 ≡ t → whole_size b ≡ 0
+      go true f = whole-none b (eqb-true (length b) 0 f)
+      go false f = let z = eqb-false (length b) 0 f in whole_part b z (λ y. omega arith) (omega arith)
+
+-- some bytes, and which
+pub some-of : (n : ℕ) → 1 ≤ n → Some n ≡ some_of n
+some-of zero h = absurd (omega arith)
+some-of (suc n) h = refl
+
+pub of-some : (n k : ℕ) → Some n ≡ some_of k → (k ≡ n) × (1 ≤ n)
+of-some n zero e = cc
+of-some n (suc k) e = let i : suc k ≡ n = cc in (i, omega arith)
+
+pub of-none : (k : ℕ) → None ≡ some_of k → k ≡ 0
+of-none zero e = refl
+of-none (suc k) e = cc
+
+pub or-none : (n : ℕ) → unwrap_or (some_of n) 0 ≡ n
+or-none zero = refl
+or-none (suc n) = refl
+
+pub stands-of : (n size : ℕ) → n ≤ size → Stands (some_of n) size
+stands-of zero size h = tt
+stands-of (suc n) size h = h
 
 pub whole-front : (b : List ℕ) → (whole_size b ≡ 0 → ⊥) → Front b (whole_size b)
 whole-front b z = go (eqb (length b) 0) (eqb (size_of b) 0) (ltb (length b) (size_of b)) refl refl refl
@@ -183,18 +224,18 @@ kept_wants command held = go (ltb (length command) held) (ltb held (size_of (hel
 -- at least one byte is taken, and none past the block's end
 module _ (command : List ℕ) (held : ℕ) (block : List ℕ) (read : ℕ) (h : 1 ≤ wanted_of (held_of command held)) (l : read < length block)
   where
-    abbrev Some : Turn × List ℕ → Type 0
-    Some x = (1 ≤ x.0.took) × (read + x.0.took ≤ length block)
+    abbrev Taken : Turn × List ℕ → Type 0
+    Taken x = (1 ≤ x.0.took) × (read + x.0.took ≤ length block)
 
-    gathered-some : Some (gathered_of command held block read)
+    gathered-some : Taken (gathered_of command held block read)
     unfolding gathered_of
     gathered-some = (omega arith, omega arith)
 
-    pub taken-some : Some (bytes_taken command held block read)
+    pub taken-some : Taken (bytes_taken command held block read)
     unfolding bytes_taken
     taken-some =
         let n = whole_size (drop read block) in
-        by_test Some (eqb held 0 && not (eqb n 0)) (record { took = n; gathered = 0 }, command) (gathered_of command held block read)
+        by_test Taken (eqb held 0 && not (eqb n 0)) (record { took = n; gathered = 0 }, command) (gathered_of command held block read)
         (λ e. let z = eqb-false n 0 (not-true _ ((and-eq-true_iff (eqb held 0) (not (eqb n 0))).0 e).1) in
         let i = (whole-front (drop read block) z).within in
         (omega arith, omega (arith, length-drop read block)))
@@ -294,6 +335,17 @@ taken-by command d held block read g e k l m =
     let s = rw (← e) at (taken-some command held block read k.some l) in
     let w = rw (← e) at (taken-within command held block read k m) in
     (s.0, s.1, w.0, w.1)
+
+-- as the program keeps it
+module _ (g : ValuesTurn) (d : List ℕ) (x : Turn × List ℕ) (e : (g, d) ≡ kept_turn x) where
+  pub kept-gathered : g.gathered ≡ some_of x.0.gathered
+  kept-gathered = ap (λ (y : ValuesTurn × List ℕ). y.0.gathered) e
+
+  pub kept-is : (record { took = g.took; gathered = x.0.gathered }, d) ≡ x
+  kept-is =
+      let t = ap (λ (y : ValuesTurn × List ℕ). y.0.took) e in
+      let k = ap (λ (y : ValuesTurn × List ℕ). y.1) e in
+      rw (t, k)
 
 pub turn_by_lem : (block : List ℕ) (w : World) (g : Turn) (d : List ℕ) → (g, d) ≡ bytes_taken w.command w.held block w.read
     → (b : List ℕ) → b ≡ source_of d g.gathered block w.read (w.read + g.took)

@@ -7,7 +7,7 @@ use mathlib.Core.Logic.{inl, inr, ⊎_elim}
 use native.Mathlib.Omega.{arith}
 use borrow.Author.Tests.{lt-ltb, le-leb}
 use lib.ListN.{length}
-use Rattle.queue.specs.declared.event.Event.{Event}
+use Rattle.queue.specs.Event.{Event}
 use Rattle.wire.proofs.Choice.{by_test}
 use Rattle.receiver.specs.Next.{next_of}
 use Rattle.capture.specs.Session.{Session, busy, with_state, with_tally}

@@ -8,7 +8,7 @@ use borrow.Author.Tests.{ltb-false}
 use lib.ListN.{length, drop, drop_of_length-le}
 use lib.Dec.{ltb}
 use Rattle.wire.proofs.Choice.{by_test}
-use Rattle.queue.specs.declared.event.Event.{Event}
+use Rattle.queue.specs.Event.{Event}
 use Rattle.receiver.specs.Next.{next_of}
 use Rattle.lines.specs.Text.{wrote}
 use Rattle.lines.specs.Line.{is_line}

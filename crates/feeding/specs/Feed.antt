@@ -6,7 +6,7 @@ use Rattle.std.proofs.Math.ListN.{length}
 use Rattle.wire.specs.Memory.{pasted}
 use Rattle.capture.specs.Session.{Progress, Session, busy, is_ended}
 use Rattle.feeding.specs.Fed.{Fed}
-use Rattle.feeding.specs.declared.feed.Turn.{Turn}
+use Rattle.feeding.specs.Turn.{Turn}
 use Rattle.capture.specs.Command.{longest_command, size_of}
 use Rattle.capture.specs.Steps.{roomy, acted_of, poured_of}
 

@@ -2,8 +2,8 @@
 use Rattle.std.specs.Prelude.{ℕ, ◌+◌, Bool, true, false, cond, List, [], ◌∷◌, ◌++◌, leb}
 use Rattle.reassembly.specs.declared.unit.Unit.{Unit}
 use Rattle.queue.specs.declared.event.Given.{Given}
-use Rattle.queue.specs.declared.event.Event.{Event}
-use Rattle.queue.specs.declared.event.Event.TheVariants.{Nothing, Note, Unit as AUnit, Refused}
+use Rattle.queue.specs.Event.{Event}
+use Rattle.queue.specs.Event.{Nothing, Note, Unit as AUnit, Refused}
 use Rattle.lines.specs.Decimal.{decimal}
 
 -- an event that has a line of its own: a note or a unit

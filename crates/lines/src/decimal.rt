@@ -1,4 +1,4 @@
-// A number in decimal, written to a slice.
+// A number in decimal, written to a slice. By hand: the text is promised to the byte, and what formatting writes is not.
 ghost use Rattle.std.specs.Prelude.{◌≡◌, ◌+◌, ◌*◌, ◌≤◌, ◌<◌, ◌%◌, length};
 ghost use Rattle.lines.specs.Decimal.{digit, decimal, pair, four, without_groups, groups, last_groups};
 ghost use Rattle.lines.specs.Text.{wrote};
@@ -8,7 +8,7 @@ fn character(d: u64) -> u8
     requires { d < 10 }
     ensures { result ≡ digit d }
 {
-    48 + d as u8
+    b'0' + d as u8
 }
 
 // The two digits of `d`.
@@ -59,13 +59,13 @@ fn count_groups(n: u64) -> usize
     requires { 10000 ≤ n }
     ensures { result ≡ groups 4 n }
 {
-    if n < 100000000 {
+    if n < 100_000_000 {
         return 1;
     }
-    if n < 1000000000000 {
+    if n < 1_000_000_000_000 {
         return 2;
     }
-    if n < 10000000000000000 {
+    if n < 10_000_000_000_000_000 {
         return 3;
     }
     4
@@ -78,19 +78,11 @@ fn without_groups(n: u64, k: usize) -> u64
 {
     match k {
         0 => n,
-        1 => n / 10000,
-        2 => n / 100000000,
-        3 => n / 1000000000000,
-        _ => n / 10000000000000000,
+        1 => n / 10_000,
+        2 => n / 100_000_000,
+        3 => n / 1_000_000_000_000,
+        _ => n / 10_000_000_000_000_000,
     }
-}
-
-// The group that stands before the last `k`.
-fn put_group(out: &mut [u8], at: usize, n: u64, k: usize) -> usize
-    requires { (k ≤ 4) × (at + 4 ≤ length out.old) }
-    ensures { (result, out.new) ≡ wrote out.old at (four (without_groups n k % 10000)) }
-{
-    put_four(out, at, without_groups(n, k) % 10000)
 }
 
 // The last `k` groups.
@@ -98,11 +90,9 @@ fn put_groups(out: &mut [u8], at: usize, n: u64, k: usize) -> usize
     requires { (k ≤ 4) × (at + 4 * k ≤ length out.old) }
     ensures { (result, out.new) ≡ wrote out.old at (last_groups n k) }
 {
-    let mut left = k;
     let mut end = at;
-    while left > 0 {
-        left -= 1;
-        end = put_group(out, end, n, left);
+    for left in (0..k).rev() {
+        end = put_four(out, end, without_groups(n, left) % 10000);
     }
     end
 }

@@ -1,26 +1,16 @@
 // The lines of a capture, written to a slice.
 ghost use Rattle.std.specs.Prelude.{◌≡◌, ◌+◌, ◌≤◌, length};
 ghost use Rattle.lines.specs.Text.{Put};
-ghost use Rattle.lines.specs.Line.{longest_line, is_line, field, place_text, carried_text, unit_line, id_text, note_line, refused_line, end_line};
+ghost use Rattle.refusal.specs.Refusal.{number_of};
+ghost use Rattle.lines.specs.Line.{longest_line, field, place_text, carried_text, unit_line, id_text, note_line, refused_line, end_line};
 
 use crate::decimal::put_decimal;
-use queue::event::{Event, Given};
+use queue::event::Given;
 use reassembly::unit::Unit;
+use refusal::Refusal;
 
 // No line is longer: seven numbers of up to 20 digits, the word unit, and eight characters behind them.
 pub const LONGEST: usize = 152;
-
-// Whether it is a note or a unit.
-pub fn is_line(event: Event) -> bool
-    ensures { result ≡ is_line event }
-{
-    match event {
-        Event::Nothing => false,
-        Event::Note(_, _) => true,
-        Event::Unit(_) => true,
-        Event::Refused(_) => false,
-    }
-}
 
 // A number, and the character behind it.
 fn put_field(out: &mut [u8], at: usize, n: u64, end: u8) -> usize
@@ -55,11 +45,10 @@ fn put_carried(out: &mut [u8], at: usize, unit: Unit) -> usize
     requires { at + 84 ≤ length out.old }
     ensures { Put out.old at (carried_text unit) 84 result out.new }
 {
-    let psn = unit.psn;
-    let kind = put_field(out, at, unit.packet_id as u64, b' ');
-    let first = put_field(out, kind, unit.kind as u64, b' ');
-    let mpu = put_field(out, first, psn.0 as u64, b' ');
-    put_field(out, mpu, unit.mpu as u64, b' ')
+    let kind = put_field(out, at, u64::from(unit.packet_id), b' ');
+    let psn = put_field(out, kind, u64::from(unit.kind), b' ');
+    let mpu = put_field(out, psn, u64::from(unit.psn.0), b' ');
+    put_field(out, mpu, u64::from(unit.mpu), b' ')
 }
 
 pub fn put_unit(out: &mut [u8], at: usize, frame: u64, slot: u64, given: Given) -> usize
@@ -68,10 +57,8 @@ pub fn put_unit(out: &mut [u8], at: usize, frame: u64, slot: u64, given: Given) 
 {
     let word = put_place(out, at, frame, slot);
     let carried = put_word(out, word, b"unit ");
-    let unit = given.unit;
-    let len = put_carried(out, carried, unit);
-    let place = given.place;
-    put_field(out, len, place.len as u64, b'\n')
+    let len = put_carried(out, carried, given.unit);
+    put_field(out, len, given.place.len as u64, b'\n')
 }
 
 // The id of a note, a dash where it has none.
@@ -82,7 +69,7 @@ fn put_id(out: &mut [u8], at: usize, note: u8, id: u16) -> usize
     if note <= 51 {
         return put_word(out, at, b"-\n");
     }
-    put_field(out, at, id as u64, b'\n')
+    put_field(out, at, u64::from(id), b'\n')
 }
 
 pub fn put_note(out: &mut [u8], at: usize, frame: u64, slot: u64, note: u8, id: u16) -> usize
@@ -91,7 +78,7 @@ pub fn put_note(out: &mut [u8], at: usize, frame: u64, slot: u64, note: u8, id: 
 {
     let word = put_place(out, at, frame, slot);
     let number = put_word(out, word, b"note ");
-    let last = put_field(out, number, note as u64, b' ');
+    let last = put_field(out, number, u64::from(note), b' ');
     put_id(out, last, note, id)
 }
 
@@ -100,7 +87,15 @@ pub fn put_refused(out: &mut [u8], at: usize, n: u8) -> usize
     ensures { Put out.old at (refused_line n) 29 result out.new }
 {
     let number = put_word(out, at, b"refused ");
-    put_field(out, number, n as u64, b'\n')
+    put_field(out, number, u64::from(n), b'\n')
+}
+
+// The same of a refusal, by its number.
+pub fn put_refusal(out: &mut [u8], at: usize, refusal: Refusal) -> usize
+    requires { at + 29 ≤ length out.old }
+    ensures { Put out.old at (refused_line (number_of refusal)) 29 result out.new }
+{
+    put_refused(out, at, u8::from(refusal))
 }
 
 pub fn put_end(out: &mut [u8], at: usize, frames: u64, units: u64, notes: u64) -> usize

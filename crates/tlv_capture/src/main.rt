@@ -9,7 +9,7 @@ use wire::memory::part;
 // The descriptor of standard output.
 const STDOUT_FILENO: i32 = 1;
 
-// The turns are counted down from a number that no run uses up.
+// The turns are counted up to a number that no run reaches.
 fn main() {
     let mut packet = [0u8; 21433];
     let mut collecting = io::large_buffer();
@@ -18,8 +18,10 @@ fn main() {
     let mut out = io::large_buffer();
     let mut words = [0u64; 751];
     let mut p = pump::fresh(begin(&mut words));
-    let mut turns = u64::MAX;
-    while turns > 0 && pump::goes_on(p) {
+    for _ in 0..u64::MAX {
+        if !pump::goes_on(p) {
+            break;
+        }
         p = pump::refill(p, &mut block);
         p = pump::feed_on(
             p,
@@ -33,9 +35,7 @@ fn main() {
         p = pump::tell(p, io::write_all(STDOUT_FILENO, part(&out, 0, p.written)));
         p = pump::pour_on(p, &mut words, &packet, &mut collecting, &mut out);
         p = pump::tell(p, io::write_all(STDOUT_FILENO, part(&out, 0, p.written)));
-        turns -= 1;
     }
-    let session = p.session;
-    let end = finish(session.tally, &mut out, 0);
+    let end = finish(p.session.tally, &mut out, 0);
     io::write_all(STDOUT_FILENO, part(&out, 0, end));
 }

@@ -1,11 +1,11 @@
 // From blocks of standard input to the capture library, and from there to text for standard output.
 ghost use Rattle.std.specs.Prelude.{◌≡◌, length};
-ghost use Rattle.tlv_capture.specs.Pump.{fresh_pump, wants_of, filled_of, Refilled, any_of, FedOn, PouredOn, told_of, goes_on};
+ghost use Rattle.tlv_capture.specs.Pump.{fresh_pump, wants_of, filled_of, Refilled, FedOn, PouredOn, told_of, goes_on};
 
 use capture::pour::pour;
 use capture::session::Session;
 use feeding::feed::{feed, is_ended};
-use wire::memory::{distance, part};
+use wire::memory::part;
 
 // The descriptor of standard input.
 const STDIN_FILENO: i32 = 0;
@@ -48,10 +48,7 @@ pub fn fresh(session: Session) -> Pumped
 fn wants(p: Pumped) -> bool
     ensures { result ≡ wants_of p }
 {
-    if p.read < p.size {
-        return false;
-    }
-    !p.last
+    p.size <= p.read && !p.last
 }
 
 // A block of `size` bytes came; one that is not full is the last.
@@ -78,15 +75,6 @@ pub fn refill(p: Pumped, block: &mut [u8]) -> Pumped
     fill(p, size, room)
 }
 
-fn is_any(a: usize, b: usize) -> bool
-    ensures { result ≡ any_of a b }
-{
-    if a != 0 {
-        return true;
-    }
-    b != 0
-}
-
 // What is left of the block is fed to the capture.
 pub fn feed_on(
     p: Pumped,
@@ -101,19 +89,17 @@ pub fn feed_on(
         collecting.old out.old result words.new command.new packet.new
         collecting.new out.new }
 {
-    let left = distance(p.read, p.size);
+    let left = p.size.saturating_sub(p.read);
     let rest = part(block, p.read, left);
-    let before = p.session;
     let fed = feed(
-        before, p.held, command, rest, words, packet, collecting, out,
+        p.session, p.held, command, rest, words, packet, collecting, out,
     );
-    let session = fed.session;
-    let unread = distance(fed.read, left);
+    let unread = left.saturating_sub(fed.read);
     Pumped {
-        session,
+        session: fed.session,
         held: fed.held,
-        read: distance(unread, p.size),
-        moved: is_any(fed.read, fed.written),
+        read: p.size.saturating_sub(unread),
+        moved: fed.read != 0 || fed.written != 0,
         written: fed.written,
         ..p
     }
@@ -130,13 +116,10 @@ pub fn pour_on(
     ensures { PouredOn p words.old packet.now collecting.old out.old
         result words.new collecting.new out.new }
 {
-    let before = p.session;
-    let poured = pour(before, words, packet, collecting, out, 0);
-    let session = poured.session;
-    let moved = if p.moved { true } else { poured.at != 0 };
+    let poured = pour(p.session, words, packet, collecting, out, 0);
     Pumped {
-        session,
-        moved,
+        session: poured.session,
+        moved: p.moved || poured.at != 0,
         written: poured.at,
         ..p
     }
@@ -146,11 +129,8 @@ pub fn pour_on(
 pub fn tell(p: Pumped, ok: bool) -> Pumped
     ensures { result ≡ told_of p ok }
 {
-    if !p.writes {
-        return Pumped { written: 0, ..p };
-    }
     Pumped {
-        writes: ok,
+        writes: p.writes && ok,
         written: 0,
         ..p
     }
@@ -160,16 +140,5 @@ pub fn tell(p: Pumped, ok: bool) -> Pumped
 pub fn goes_on(p: Pumped) -> bool
     ensures { result ≡ goes_on p }
 {
-    if !p.writes {
-        return false;
-    }
-    let session = p.session;
-    let phase = session.phase;
-    if p.last {
-        return p.moved;
-    }
-    if is_ended(phase) {
-        return p.moved;
-    }
-    true
+    p.writes && (p.moved || !p.last && !is_ended(p.session.phase))
 }

@@ -1,4 +1,4 @@
--- main is safe and ends: the measure is the number of turns that are left.
+-- main is safe: the memories keep their sizes.
 use mathlib.Core.Path.{◌≡◌}
 use lib.ListN.{length}
 use Rattle.intake.specs.Slot.{packet_memory}
@@ -6,10 +6,7 @@ use Rattle.state.specs.Words.{state_words}
 use Rattle.capture.specs.Command.{longest_command}
 use Rattle.tlv_capture.proofs.main.Given as goal
 
-abbrev pub invariant-loop-turns : goal.invariant-loop-turns
-invariant-loop-turns l =
+abbrev pub invariant-loop : goal.invariant-loop
+invariant-loop l =
     (packet_memory ≡ length l.packet) × (65536 ≡ length l.collecting) × (longest_command ≡ length l.command) × (65536 ≡ length l.block)
     × (65536 ≡ length l.out) × (state_words ≡ length l.words)
-
-abbrev pub decreases-loop-turns : goal.decreases-loop-turns
-decreases-loop-turns l = l.turns

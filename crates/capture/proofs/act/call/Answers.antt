@@ -15,8 +15,8 @@ calls : (before after p : List ℕ) (r : ℕ) (x : Called) → state_words ≤ l
 calls before after p r x h l =
     record { answer = ap (λ (y : Called × List ℕ). (y.0, p)) (l.long h); exact = l.exact }
 
-pub config-config-requires : goal.config-config-requires
-config-config-requires c = rw c.in-Start.is at c.requires.2
+pub config-requires : goal.config-requires
+config-requires c = rw c.in-Start.is at c.requires.2
 
 pub slice_bounds-slot-count : goal.slice_bounds-slot-count
 slice_bounds-slot-count c =
@@ -29,7 +29,7 @@ slice_bounds-slot-start c =
 pub returns-in-Start : goal.returns-in-Start
 unfolding call_of
 returns-in-Start c =
-    rw (c.in-Start.is, ← c.config-config.ensures)
+    rw (c.in-Start.is, ← c.config.ensures)
     (calls _ _ _ _ _ c.requires.0 c.start.ensures.leaves)
 
 pub returns-in-Frame : goal.returns-in-Frame

@@ -8,6 +8,5 @@ returns-then-b-lt3 c = (sym (slot-size-short _ c.if-b-lt3.true), omega arith)
 
 pub returns : goal.returns
 returns c =
-    let r = c.read16.ensures in
     let k = slot-size-known c.args.b.now c.if-b-lt3.false in
     (omega arith, omega arith)

@@ -26,14 +26,14 @@ abbrev pub invariant-loop-command : goal.invariant-loop-command
 invariant-loop-command l =
     record {
       same :
-          fed_from l.block (world (session_in l.next l.words) l.kept l.command l.read l.packet l.collecting l.out l.written)
-          ≡ fed_from l.block (world (session_in l.initial.next l.initial.words) l.initial.kept l.initial.command 0 l.initial.packet l.initial.collecting l.initial.out 0);
-      keeps : Keeps l.command l.kept;
-      within : l.read ≤ length l.block;
+          fed_from l.block (world (session_in l.fed.session l.words) l.fed.held l.command l.fed.read l.packet l.collecting l.out l.fed.written)
+          ≡ fed_from l.block (world (session_in l.initial.fed.session l.initial.words) l.initial.fed.held l.initial.command 0 l.initial.packet l.initial.collecting l.initial.out 0);
+      keeps : Keeps l.command l.fed.held;
+      within : l.fed.read ≤ length l.block;
       command : longest_command ≤ length l.command;
       words : state_words ≤ length l.words;
       exact : Exact l.initial.words l.words;
     }
 
 abbrev pub decreases-loop-command : goal.decreases-loop-command
-decreases-loop-command l = length l.block - l.read
+decreases-loop-command l = length l.block - l.fed.read

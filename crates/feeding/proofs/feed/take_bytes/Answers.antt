@@ -1,23 +1,25 @@
--- Why `take_bytes` meets its contract: bytes are held, the command is not whole in the block, or it is.
-use mathlib.Core.Path.{sym, ◌∙◌}
+-- Why `take_bytes` meets its contract: the command is whole in the block, or bytes are held, or it is not whole.
+use Rattle.std.proofs.Common.{◌≡◌, ap, drop, sym, ◌∙◌, arith}
 use Rattle.wire.proofs.MemoryLaws.{slice-rest}
-use Rattle.feeding.proofs.FeedLaws.{taken-whole, taken-held, taken-part}
+use Rattle.feeding.specs.Turn.{kept_turn}
+use Rattle.feeding.specs.Feed.{whole_size, gathered_of, bytes_taken}
+use Rattle.feeding.proofs.FeedLaws.{taken-whole, taken-held, taken-part, of-some, of-none}
 use Rattle.feeding.proofs.feed.take_bytes.Goals as goal
+use Rattle.feeding.proofs.feed.take_bytes.Goals.{in_default-via-in-Some+else-held-eq0 as held, in_default-via-in_default as part}
 
-pub returns-then-held-ne0 : goal.returns-then-held-ne0
-returns-then-held-ne0 c =
-    let g = c in
-    g.gather.ensures ∙ sym (taken-held _ _ _ _ g.if-held-ne0.true)
+pub returns-in-Some : goal.returns-in-Some
+returns-in-Some c =
+    let e = rw (slice-rest, c.in-Some.is) at c.whole_size.ensures.0 in
+    let k = of-some _ (whole_size (drop c.args.read c.args.block.now)) e in
+    rw (taken-whole c.args.command.now c.args.held c.args.block.now c.args.read c.if-held-eq0.true (λ z. omega arith), k.0)
 
-pub returns-then-n-eq0 : goal.returns-then-n-eq0
-returns-then-n-eq0 c =
-    let g = c in
-    let i = g in
-    let e = rw slice-rest at i.whole_size-n.ensures.0 in
-    g.gather-then-n-eq0.ensures ∙ sym (taken-part _ _ _ _ (sym e ∙ i.if-n-eq0.true))
-
-pub returns : goal.returns
-returns c =
-    let e = rw slice-rest at c.whole_size-n.ensures.0 in
-    let h = c.if-held-ne0.false in
-    rw e (sym (taken-whole _ _ _ _ h (λ z. c.if-n-eq0.false (e ∙ z))))
+pub returns-in_default : goal.returns-in_default
+returns-in_default c =
+    let e = rw slice-rest at c.whole_size.ensures.0 in
+    let t : bytes_taken c.args.command.now c.args.held c.args.block.now c.args.read
+    ≡ gathered_of c.args.command.now c.args.held c.args.block.now c.args.read =
+    elim c.in_default.branch [
+      | held w ↦ taken-held _ _ _ _ w.if-held-eq0.false
+      | part w ↦ taken-part _ _ _ _ (of-none _ (sym w.in_default.is ∙ e))
+    ] in
+    c.gather.ensures ∙ ap kept_turn (sym t)

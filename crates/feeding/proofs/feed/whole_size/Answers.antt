@@ -1,26 +1,15 @@
--- Why `whole_size` meets its contract, case by case.
-use mathlib.Core.Path.{sym, ◌∙◌}
-use native.Mathlib.Omega.{arith}
-use Rattle.feeding.proofs.FeedLaws.{whole-none, whole_unknown, whole_part, whole-known}
+-- Why `whole_size` meets its contract: the command fits, or not.
+use Rattle.std.proofs.Common.{refl, arith}
+use Rattle.feeding.proofs.FeedLaws.{whole_fits, whole_over, some-of}
 use Rattle.feeding.proofs.feed.whole_size.Goals as goal
-
-pub returns-then-b-eq0 : goal.returns-then-b-eq0
-returns-then-b-eq0 c = (sym (whole-none _ c.if-b-eq0.true), omega arith)
-
-pub returns-then-n-eq0 : goal.returns-then-n-eq0
-returns-then-n-eq0 c =
-    let o = c.if-b-eq0.false in
-    let e = c.size-n.ensures.0 in
-    (sym (whole_unknown _ o (sym e ∙ c.if-n-eq0.true)), omega arith)
 
 pub returns-then-n-b : goal.returns-then-n-b
 returns-then-n-b c =
-    let o = c.if-b-eq0.false in
-    let e = c.size-n.ensures.0 in
-    (sym (whole_part _ o (λ z. c.if-n-eq0.false (e ∙ z)) (rw e at c.if-n-b.true)), omega arith)
+    let e = rw c.size.ensures.0 at c.max-n.ensures in
+    let w = whole_fits _ _ e c.if-n-b.true in
+    rw w (some-of _ (omega arith), c.if-n-b.true)
 
-pub returns : goal.returns
-returns c =
-    let o = c.if-b-eq0.false in
-    let e = c.size-n.ensures.0 in
-    (e ∙ sym (whole-known _ o (λ z. c.if-n-eq0.false (e ∙ z)) (rw e at c.if-n-b.false)), c.if-n-b.false)
+pub returns-else-n-b : goal.returns-else-n-b
+returns-else-n-b c =
+    let e = rw c.size.ensures.0 at c.max-n.ensures in
+    rw (whole_over _ _ e c.if-n-b.false) (refl, omega arith)

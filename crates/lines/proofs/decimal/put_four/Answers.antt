@@ -7,15 +7,10 @@ use Rattle.lines.proofs.decimal.put_four.Goals as goal
 
 pub put_pair-requires : goal.put_pair-requires
 put_pair-requires c =
-    let a = c in
-    let s = a in
-    (omega arith, written-room _ _ _ _ _ a.put_pair-half.ensures 2 (rw length-pair (omega (arith, s.requires.1))))
+    (omega arith, written-room _ _ _ _ _ c.put_pair-half.ensures 2 (rw length-pair (omega (arith, c.requires.1))))
 
 pub returns : goal.returns
 unfolding four
 returns c =
-    let b = c in
-    let a = b in
-    let s = a in
-    written-more _ _ _ _ _ a.put_pair-half.ensures _ _ _ b.put_pair.ensures
-    (rw (length-pair, length-pair) (omega (arith, s.requires.1)))
+    written-more _ _ _ _ _ c.put_pair-half.ensures _ _ _ c.put_pair.ensures
+    (rw (length-pair, length-pair) (omega (arith, c.requires.1)))

@@ -28,22 +28,11 @@ turn out₀ out o at n k left end r g e =
 pub loop-left-init : goal.loop-left-init
 loop-left-init c = record { within = c.requires.0; same = refl; room = c.requires.1; whole = refl }
 
-pub overflow_sub-left : goal.overflow_sub-left
-overflow_sub-left c = omega arith
-
-pub put_group-end-requires : goal.put_group-end-requires
-put_group-end-requires c =
-    let i = c.loop-left.invariant in
-    (omega (arith, i.within), omega (arith, i.room))
-
-pub loop-left-smaller : goal.loop-left-smaller
-loop-left-smaller c = omega arith
-
 pub loop-left-preserved : goal.loop-left-preserved
 loop-left-preserved c =
     let k = c.loop-left.left in
     let z : k ≡ suc (k - 1) = omega arith in
-    turn _ _ _ _ _ _ _ _ _ (rw z at c.loop-left.invariant) c.put_group-end.ensures
+    turn _ _ _ _ _ _ _ _ _ (rw z at c.loop-left.invariant) (rw c.without_groups.ensures at c.put_four-end.ensures)
 
 pub returns : goal.returns
 unfolding last_groups

@@ -1,4 +1,4 @@
--- Why `put_groups` meets its contract: writing the groups that are left makes the whole. The measure is how many are left.
+-- Why `put_groups` meets its contract: writing the groups that are left makes the whole.
 use Prim.Native.Nat.{ℕ, ◌+◌, ◌*◌, ◌≤◌}
 use mathlib.Core.Path.{◌≡◌}
 use mathlib.Core.List.{List}
@@ -15,6 +15,3 @@ pub record Goes (out₀ : List ℕ) (at n k : ℕ) (out : List ℕ) (left end : 
 
 abbrev pub invariant-loop-left : goal.invariant-loop-left
 invariant-loop-left l = Goes l.initial.out l.at l.n l.k l.out l.left l.end
-
-abbrev pub decreases-loop-left : goal.decreases-loop-left
-decreases-loop-left l = l.left

@@ -11,5 +11,4 @@ bounds-out-at-2 c = rw length-set (omega arith)
 pub returns : goal.returns
 unfolding pair
 returns c =
-    let s = c in
-    rw (c.character.ensures, c.character-2.ensures) (wrote_two _ _ _ _ s.requires.1)
+    rw (c.character.ensures, c.character-2.ensures) (wrote_two _ _ _ _ c.requires.1)

@@ -13,24 +13,16 @@ behind n h l = let p = length-pair (n % 100) in rw (decimal-pair n h (omega arit
 
 pub put_two-next-requires : goal.put_two-next-requires
 put_two-next-requires c =
-    let s = c in
-    (omega arith, omega (arith, behind s.args.n c.if-n-lt100.false s.requires.0))
+    (omega arith, omega (arith, behind c.args.n c.if-n-lt100.false c.requires.0))
 
 pub put_pair-requires : goal.put_pair-requires
 put_pair-requires c =
-    let a = c in
-    let e = a in
-    let s = e in
-    let l = behind s.args.n e.if-n-lt100.false s.requires.0 in
-    (omega arith, written-room _ _ _ _ _ a.put_two-next.ensures 2 (omega (arith, l, s.requires.1)))
+    let l = behind c.args.n c.if-n-lt100.false c.requires.0 in
+    (omega arith, written-room _ _ _ _ _ c.put_two-next.ensures 2 (omega (arith, l, c.requires.1)))
 
 pub returns : goal.returns
 returns c =
-    let b = c in
-    let a = b in
-    let e = a in
-    let s = e in
-    let n = s.args.n in
-    let l = behind n e.if-n-lt100.false s.requires.0 in
-    rw (decimal-pair n e.if-n-lt100.false (omega (arith, s.requires.0)))
-    (written-more _ _ _ _ _ a.put_two-next.ensures _ _ _ b.put_pair.ensures (omega (arith, l, length-pair (n % 100), s.requires.1)))
+    let n = c.args.n in
+    let l = behind n c.if-n-lt100.false c.requires.0 in
+    rw (decimal-pair n c.if-n-lt100.false (omega (arith, c.requires.0)))
+    (written-more _ _ _ _ _ c.put_two-next.ensures _ _ _ c.put_pair.ensures (omega (arith, l, length-pair (n % 100), c.requires.1)))

@@ -12,23 +12,18 @@ one-digit : (n : ℕ) → n < 10 → length (decimal n) ≡ 1
 one-digit n h = rw (decimal-one n h)
 
 pub bounds-out-at : goal.bounds-out-at
-bounds-out-at c = let s = c in omega (arith, one-digit s.args.n c.if-n-lt10.true)
+bounds-out-at c = omega (arith, one-digit c.args.n c.if-n-lt10.true)
 
 pub returns-then-n-lt10 : goal.returns-then-n-lt10
 returns-then-n-lt10 c =
-    let s = c in
     let h = c.if-n-lt10.true in
-    rw (c.character.ensures, decimal-one _ h) (wrote-byte _ _ _ (omega (arith, one-digit s.args.n h)))
+    rw (c.character.ensures, decimal-one _ h) (wrote-byte _ _ _ (omega (arith, one-digit c.args.n h)))
 
 pub put_pair-requires : goal.put_pair-requires
 put_pair-requires c =
-    let s = c in
-    let l = rw (decimal_two _ c.if-n-lt10.false s.requires.0) at s.requires.1 in
-    (omega arith, omega (arith, length-pair s.args.n))
+    let l = rw (decimal_two _ c.if-n-lt10.false c.requires.0) at c.requires.1 in
+    (omega arith, omega (arith, length-pair c.args.n))
 
 pub returns : goal.returns
 returns c =
-    let a = c in
-    let e = a in
-    let s = e in
-    rw (decimal_two _ e.if-n-lt10.false s.requires.0) a.put_pair.ensures
+    rw (decimal_two _ c.if-n-lt10.false c.requires.0) c.put_pair.ensures

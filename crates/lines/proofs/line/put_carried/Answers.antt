@@ -7,8 +7,5 @@ use Rattle.lines.proofs.line.put_carried.Goals as goal
 pub returns : goal.returns
 unfolding carried_text
 returns c =
-    let a = c in
-    let b = a in
-    let c = b in
-    let d = c in
-    put_four d.put_field-kind.ensures c.put_field-first.ensures b.put_field-mpu.ensures a.put_field.ensures (omega arith)
+    put_four (rw c.from.ensures at c.put_field-kind.ensures) (rw c.from-2.ensures at c.put_field-psn.ensures)
+    (rw c.from-3.ensures at c.put_field-mpu.ensures) (rw c.from-4.ensures at c.put_field.ensures) (omega arith)

@@ -7,8 +7,4 @@ use Rattle.lines.proofs.line.put_end.Goals as goal
 pub returns : goal.returns
 unfolding end_line
 returns c =
-    let a = c in
-    let b = a in
-    let c = b in
-    let d = c in
-    put_four d.put_word-first.ensures c.put_field-second.ensures b.put_field-third.ensures a.put_field.ensures (omega arith)
+    put_four c.put_word-first.ensures c.put_field-second.ensures c.put_field-third.ensures c.put_field.ensures (omega arith)

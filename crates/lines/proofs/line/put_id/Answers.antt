@@ -6,8 +6,7 @@ use Rattle.lines.proofs.line.put_id.Goals as goal
 
 pub returns-then-note-le51 : goal.returns-then-note-le51
 returns-then-note-le51 c =
-    let a = c in
-    rw (id-none _ _ a.if-note-le51.true) (put-within a.put_word.ensures (omega arith))
+    rw (id-none _ _ c.if-note-le51.true) (put-within c.put_word.ensures (omega arith))
 
 pub returns : goal.returns
-returns c = let a = c in rw (id-some _ _ a.if-note-le51.false) a.put_field.ensures
+returns c = rw (id-some _ _ c.if-note-le51.false) (rw c.from.ensures at c.put_field.ensures)

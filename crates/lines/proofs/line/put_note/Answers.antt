@@ -7,8 +7,4 @@ use Rattle.lines.proofs.line.put_note.Goals as goal
 pub returns : goal.returns
 unfolding note_line
 returns c =
-    let a = c in
-    let b = a in
-    let c = b in
-    let d = c in
-    put_four d.put_place-word.ensures c.put_word-number.ensures b.put_field-last.ensures a.put_id.ensures (omega arith)
+    put_four c.put_place-word.ensures c.put_word-number.ensures (rw c.from.ensures at c.put_field-last.ensures) c.put_id.ensures (omega arith)

@@ -7,6 +7,4 @@ use Rattle.lines.proofs.line.put_place.Goals as goal
 pub returns : goal.returns
 unfolding place_text
 returns c =
-    let a = c in
-    let b = a in
-    put-more b.put_field-next.ensures a.put_field.ensures (omega arith)
+    put-more c.put_field-next.ensures c.put_field.ensures (omega arith)

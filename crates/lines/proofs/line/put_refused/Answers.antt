@@ -6,4 +6,5 @@ use Rattle.lines.proofs.line.put_refused.Goals as goal
 
 pub returns : goal.returns
 unfolding refused_line
-returns c = put-more c.put_word-number.ensures c.put_field.ensures (omega arith)
+returns c =
+    put-more c.put_word-number.ensures (rw c.from.ensures at c.put_field.ensures) (omega arith)

@@ -7,8 +7,4 @@ use Rattle.lines.proofs.line.put_unit.Goals as goal
 pub returns : goal.returns
 unfolding unit_line
 returns c =
-    let a = c in
-    let b = a in
-    let c = b in
-    let d = c in
-    put_four d.put_place-word.ensures c.put_word-carried.ensures b.put_carried-len.ensures a.put_field.ensures (omega arith)
+    put_four c.put_place-word.ensures c.put_word-carried.ensures c.put_carried-len.ensures c.put_field.ensures (omega arith)

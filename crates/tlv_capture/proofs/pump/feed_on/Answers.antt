@@ -1,13 +1,21 @@
--- Why `feed_on` meets its contract: what is left of the block, fed.
+-- Why `feed_on` meets its contract: what is left of the block, fed; something moves if bytes were read, or text was written.
+use borrow.Author.Tests.{eq-eqb, ne_eqb}
 use Rattle.tlv_capture.proofs.pump.feed_on.Goals as goal
 
-pub returns : goal.returns
-returns c =
-    let f = c in
-    let m = f in
-    let d = m.distance-left in
+pub returns-then-fed-ne0 : goal.returns-then-fed-ne0
+returns-then-fed-ne0 c =
+    let d = c.saturating_sub-left in
     record {
-      fed = f.feed-fed.result;
-      feeds = rw (m.part-rest.ensures, d.ensures) at f.feed-fed.ensures;
-      pumped = rw (c.is_any.ensures, c.distance.ensures, c.distance-unread.ensures, d.ensures);
+      fed = c.feed-fed.result;
+      feeds = rw (c.part-rest.ensures, d.ensures) at c.feed-fed.ensures;
+      pumped = rw (ne_eqb _ _ c.if-fed-ne0.true, c.saturating_sub.ensures, c.saturating_sub-unread.ensures, d.ensures);
+    }
+
+pub returns-else-fed-ne0 : goal.returns-else-fed-ne0
+returns-else-fed-ne0 c =
+    let d = c.saturating_sub-left in
+    record {
+      fed = c.feed-fed.result;
+      feeds = rw (c.part-rest.ensures, d.ensures) at c.feed-fed.ensures;
+      pumped = rw (eq-eqb _ _ c.if-fed-ne0.false, c.saturating_sub.ensures, c.saturating_sub-unread.ensures, d.ensures);
     }

@@ -3,10 +3,8 @@ use Rattle.tlv_capture.proofs.pump.pour_on.Goals as goal
 
 pub returns-then-p : goal.returns-then-p
 returns-then-p c =
-    let p = c in
-    record { poured = p.pour-poured.result; pours = p.pour-poured.ensures; pumped = rw c.if-p.true }
+    record { poured = c.pour-poured.result; pours = c.pour-poured.ensures; pumped = rw c.if-p.true }
 
 pub returns-else-p : goal.returns-else-p
 returns-else-p c =
-    let p = c in
-    record { poured = p.pour-poured.result; pours = p.pour-poured.ensures; pumped = rw c.if-p.false }
+    record { poured = c.pour-poured.result; pours = c.pour-poured.ensures; pumped = rw c.if-p.false }

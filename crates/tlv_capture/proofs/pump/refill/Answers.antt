@@ -9,5 +9,4 @@ returns-then-not-wants c = (inl (sym c.wants.ensures ∙ c.if-not-wants.true, re
 
 pub returns : goal.returns
 returns c =
-    let e = c in
-    (inr (sym e.wants.ensures ∙ e.if-not-wants.false, _, c.fill.ensures), search rules)
+    (inr (sym c.wants.ensures ∙ c.if-not-wants.false, _, c.fill.ensures), search rules)

@@ -1,9 +1,0 @@
--- Why `is_any` meets its contract: the first number, then the second.
-use borrow.Author.Tests.{eq-eqb, ne_eqb}
-use Rattle.tlv_capture.proofs.pump.is_any.Goals as goal
-
-pub returns-then-a-ne0 : goal.returns-then-a-ne0
-returns-then-a-ne0 c = rw (ne_eqb _ _ c.if-a-ne0.true)
-
-pub returns : goal.returns
-returns c = rw (eq-eqb _ _ c.if-a-ne0.false)
