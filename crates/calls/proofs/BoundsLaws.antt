@@ -4,9 +4,17 @@ use Rattle.std.proofs.Common.{◌∙◌, add-one, arith, le-leb}
 use Rattle.std.proofs.Math.Bool.{and-false, and-eq-true_iff}
 use Rattle.std.proofs.lemmas.Bool.{lt-leb}
 use Rattle.std.proofs.Math.Seq.{drop-cons, drop-length}
+use Rattle.std.specs.List.{list_all, zip}
 use Rattle.calls.specs.Bounds.{are_within}
 
 -- Laws.
+-- place by place, where there are enough words
+pub within-zip : (t ms : List ℕ) → length ms ≤ length t → list_all (λ (p : ℕ × ℕ). leb p.1 p.0) (zip ms t) ≡ are_within t ms
+unfolding are_within
+within-zip t [] h = refl
+within-zip [] (m ∷ ms) h = absurd (omega arith)
+within-zip (w ∷ t) (m ∷ ms) h = rw (within-zip t ms (omega arith))
+
 -- too few words
 pub within-few : (t ms : List ℕ) → length t < length ms → are_within t ms ≡ false
 unfolding are_within

@@ -1,14 +1,16 @@
 -- Laws of specs/Events.antt.
 use Prim.Native.Nat.{ℕ, suc, ◌+◌, ◌/◌, ◌<◌, ◌≤◌}
-use Rattle.std.specs.Prelude.{◌≡◌, refl, true, false}
+use Rattle.std.specs.Prelude.{◌≡◌, refl, true, false, Option, Some, None}
 use Rattle.std.proofs.Common.{sym, ap, add-zero}
 use mathlib.Core.List.{List}
 use native.Mathlib.Omega.{arith}
 use borrow.Author.Tests.{lt-ltb, le-ltb, ne_eqb}
 use Rattle.std.proofs.Math.ListN.{length}
 use Rattle.wire.proofs.WordsLaws.{put_one, stores}
-use Rattle.queue.specs.declared.event.Event.{Event}
-use Rattle.queue.specs.declared.event.Event.TheVariants.{Nothing, Note, Unit, Refused}
+use Rattle.queue.specs.declared.event.Event.{Event as GivenEvent}
+use Rattle.queue.specs.declared.event.Event.TheVariants.{Note as ANote, Unit as AUnit}
+use Rattle.queue.specs.Event.{Event, as_given, as_event}
+use Rattle.queue.specs.Event.{Nothing, Note, Unit, Refused}
 use Rattle.state.specs.State.{State}
 use Rattle.frames.specs.Slot.{short_by}
 use Rattle.receiver.specs.Next.{NextOut, next_of}
@@ -23,6 +25,16 @@ refused-event Nothing h = absurd (h refl)
 refused-event (Note n id) h = absurd (h refl)
 refused-event (Unit g) h = absurd (h refl)
 refused-event (Refused n) h = refl
+
+-- what next gives is no refusal
+pub unrefused-event : (e : Option GivenEvent) → refusal_of (as_event e) ≡ 0
+unrefused-event None = refl
+unrefused-event (Some (ANote n id)) = refl
+unrefused-event (Some (AUnit g)) = refl
+
+pub is_given-event : (e : GivenEvent) → is_given (as_given e) ≡ true
+is_given-event (ANote n id) = refl
+is_given-event (AUnit g) = refl
 
 -- a record that was stored
 pub event-put : (t u : List ℕ) (i : ℕ) (e : Event) → i + record_words ≤ length t → EventStored t u i e → u ≡ put_event t i e

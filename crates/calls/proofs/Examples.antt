@@ -11,7 +11,7 @@ use Rattle.intake.specs.Slot.{noted}
 use Rattle.queue.specs.declared.event.Memory.{Memory}
 use Rattle.queue.specs.declared.event.Memory.TheVariants.{Packet, Collecting}
 use Rattle.queue.specs.declared.event.Given.{Given}
-use Rattle.queue.specs.declared.event.Event.TheVariants.{Nothing, Note, Unit}
+use Rattle.queue.specs.Event.{Nothing, Note, Unit}
 use Rattle.queue.specs.Waiting.{One}
 use Rattle.queue.specs.Queue.{empty, giving, event_taken}
 use Rattle.delivery.specs.Cursor.{turn_of, advanced_of, left}

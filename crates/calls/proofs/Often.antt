@@ -6,7 +6,7 @@ use mathlib.Core.Logic.{◌⊎◌, inl, inr}
 use mathlib.Core.List.{List, [], ◌∷◌}
 use native.Mathlib.Omega.{arith}
 use lib.ListN.{length}
-use Rattle.queue.specs.declared.event.Event.{Event}
+use Rattle.queue.specs.Event.{Event}
 use Rattle.state.specs.State.{State}
 use Rattle.receiver.specs.Next.{NextOut, next_of}
 use Rattle.calls.specs.Events.{Many, none, behind, is_given, is_joined, events_of}

@@ -14,8 +14,8 @@ use Rattle.queue.specs.declared.event.Memory.TheVariants.{Packet, Collecting}
 use Rattle.queue.specs.Words.{memory_word}
 use Rattle.queue.proofs.WordsLaws.{memory-back}
 use Rattle.queue.specs.declared.event.Given.{Given}
-use Rattle.queue.specs.declared.event.Event.{Event}
-use Rattle.queue.specs.declared.event.Event.TheVariants.{Nothing, Note, Unit as UnitGiven, Refused}
+use Rattle.queue.specs.Event.{Event}
+use Rattle.queue.specs.Event.{Nothing, Note, Unit as UnitGiven, Refused}
 use Rattle.calls.specs.Bounds.{are_within}
 use Rattle.calls.proofs.BoundsLaws.{within-enough}
 use Rattle.calls.specs.Settings.{most8, most16, most32, most64}

@@ -3,7 +3,7 @@
 use Rattle.std.specs.Prelude.{ℕ, zero, suc, ◌/◌, ◌<◌, ◌≤◌, ◌≡◌, true, false, ◌⊎◌, List, [], ◌∷◌, ◌++◌, length, replicate}
 use Rattle.wire.specs.Memory.{pasted}
 use Rattle.reassembly.specs.declared.config.Config.{Config}
-use Rattle.queue.specs.declared.event.Event.{Event}
+use Rattle.queue.specs.Event.{Event}
 use Rattle.queue.specs.declared.event.Given.{Given}
 use Rattle.state.specs.State.{State, refused}
 use Rattle.frames.specs.Slot.{short_by}

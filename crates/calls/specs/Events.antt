@@ -6,8 +6,8 @@ use Rattle.std.proofs.Math.ListN.{length}
 use Rattle.wire.specs.Words.{put_from}
 use Rattle.queue.specs.declared.event.Memory.{Memory}
 use Rattle.queue.specs.declared.event.Memory.TheVariants.{Packet, Collecting}
-use Rattle.queue.specs.declared.event.Event.{Event}
-use Rattle.queue.specs.declared.event.Event.TheVariants.{Nothing, Note, Unit, Refused}
+use Rattle.queue.specs.Event.{Event}
+use Rattle.queue.specs.Event.{Nothing, Note, Unit, Refused}
 use Rattle.state.specs.State.{State}
 use Rattle.frames.specs.Slot.{short_by}
 use Rattle.receiver.specs.Next.{NextOut, next_of}

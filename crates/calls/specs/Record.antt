@@ -7,8 +7,8 @@ use Rattle.words.specs.Channel.{unit_words, SizedUnit}
 use Rattle.queue.specs.Words.{memory_at, memory_word}
 use Rattle.queue.specs.declared.event.Place.{Place}
 use Rattle.queue.specs.declared.event.Given.{Given}
-use Rattle.queue.specs.declared.event.Event.{Event}
-use Rattle.queue.specs.declared.event.Event.TheVariants.{Nothing, Note, Unit as UnitGiven, Refused}
+use Rattle.queue.specs.Event.{Event}
+use Rattle.queue.specs.Event.{Nothing, Note, Unit as UnitGiven, Refused}
 use Rattle.calls.specs.Bounds.{are_within}
 use Rattle.calls.specs.Settings.{most8, most16, most32, most64}
 

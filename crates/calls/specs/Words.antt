@@ -1,9 +1,15 @@
 -- What the calls answer and leave, the receiver's state being in words that the caller lends.
-use Rattle.std.specs.Prelude.{ℕ, ◌/◌, ◌<◌, ◌≤◌, ◌≡◌, List, length}
+use Rattle.std.specs.Prelude.{ℕ, ◌/◌, ◌<◌, ◌≤◌, ◌≡◌, List, length, Result, Ok, Err}
+use Rattle.refusal.specs.declared.Refusal.{Refusal}
 use Rattle.state.specs.Words.{state_words, state_in, Exact}
 use Rattle.state.specs.State.{State}
 use Rattle.calls.specs.Record.{record_words}
 use Rattle.calls.specs.Events.{NextLeft, EventsLeft, events_of, events_left}
+
+-- how many were given; where the call is refused, the number that the caller lent
+abbrev pub given_or : Result ℕ Refusal → ℕ → ℕ
+given_or (Ok n) lent = n
+given_or (Err r) lent = lent
 
 -- next: by a definition's answer x. A refused call leaves every word.
 pub record NextDone (before c t : List ℕ) (r : ℕ) (after d u : List ℕ) (x : NextLeft) : Type 0 where

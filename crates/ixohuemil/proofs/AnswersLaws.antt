@@ -1,24 +1,34 @@
 -- Laws of specs/Answers.antt.
-use Rattle.std.specs.Prelude.{ℕ, ◌≡◌, true, false, List}
+use Rattle.std.specs.Prelude.{ℕ, ◌≡◌, true, false, List, Result, Ok, Err}
+use Rattle.refusal.specs.declared.Refusal.{Refusal}
+use Rattle.refusal.specs.Refusal.{number_of, answer}
 use Rattle.tmcc.specs.declared.layout.Pointers.{Pointers}
 use Rattle.reassembly.specs.declared.unit.Unit.{Unit}
 use Rattle.words.specs.Channel.{read_unit}
 use Rattle.calls.specs.Record.{is_unit_record}
-use Rattle.packer.specs.declared.pack.Packed.TheVariants.{Written, Refused as NotPacked}
+use Rattle.packer.specs.Packed.{as_packed}
+use Rattle.packer.specs.Packed.{Written, Refused as NotPacked}
+use Rattle.calls.specs.Words.{given_or}
 use Rattle.packer.specs.Packer.{pack_of}
-use Rattle.cutter.specs.declared.slot.CutSlot.TheVariants.{Cut, Refused as NotCut}
+use Rattle.cutter.specs.Cut.{Cut, Refused as NotCut}
 use Rattle.cutter.specs.Slot.{slot_cut}
 use Rattle.ixohuemil.specs.Answers.{pack_call, pack_record, cut_call}
 
 -- by what the packer and the cutter answer
-module _ (u : Unit) (cid sn m : ℕ) (s out : List ℕ) (len n : ℕ) (after : List ℕ) where
-  pub pack_taken : (Written n, after) ≡ pack_of u cid sn m s out → pack_call u cid sn m s out len ≡ (0, n, after)
+module _ (u : Unit) (cid sn m : ℕ) (s out : List ℕ) (len : ℕ) where
+  pub pack_taken : (n : ℕ) (after : List ℕ) → (Written n, after) ≡ pack_of u cid sn m s out → pack_call u cid sn m s out len ≡ (0, n, after)
   unfolding pack_call
-  pack_taken e = rw (← e)
+  pack_taken n after e = rw (← e)
 
-  pub pack_left : (NotPacked n, after) ≡ pack_of u cid sn m s out → pack_call u cid sn m s out len ≡ (n, len, after)
+  pub pack_left : (n : ℕ) (after : List ℕ) → (NotPacked n, after) ≡ pack_of u cid sn m s out → pack_call u cid sn m s out len ≡ (n, len, after)
   unfolding pack_call
-  pack_left e = rw (← e)
+  pack_left n after e = rw (← e)
+
+  -- the same, by the call's own result
+  pub pack_answered : (after : List ℕ) (r : Result ℕ Refusal) → (as_packed r, after) ≡ pack_of u cid sn m s out
+      → pack_call u cid sn m s out len ≡ (answer r, given_or r len, after)
+  pack_answered after (Ok n) e = pack_taken n after e
+  pack_answered after (Err f) e = pack_left (number_of f) after e
 
 module _ (t : List ℕ) (cid sn m : ℕ) (s out : List ℕ) (len : ℕ) where
   pub pack_unit : is_unit_record t ≡ true → pack_record t cid sn m s out len ≡ pack_call (read_unit t 5) cid sn m s out len

@@ -8,12 +8,12 @@ use native.Mathlib.Omega.{arith}
 use Rattle.reassembly.specs.declared.unit.Unit.{Unit}
 use Rattle.words.specs.Channel.{read_unit}
 use Rattle.calls.specs.Record.{is_unit_record}
-use Rattle.packer.specs.declared.pack.Packed.{Packed}
-use Rattle.packer.specs.declared.pack.Packed.TheVariants.{Written, Refused as NotPacked}
+use Rattle.packer.specs.Packed.{Packed}
+use Rattle.packer.specs.Packed.{Written, Refused as NotPacked}
 use Rattle.packer.specs.Packer.{pack_of}
 use Rattle.packer.proofs.Refusals.{pack_refused}
-use Rattle.cutter.specs.declared.slot.CutSlot.{CutSlot}
-use Rattle.cutter.specs.declared.slot.CutSlot.TheVariants.{Cut, Refused as NotCut}
+use Rattle.cutter.specs.Cut.{CutSlot}
+use Rattle.cutter.specs.Cut.{Cut, Refused as NotCut}
 use Rattle.cutter.specs.Slot.{slot_cut}
 use Rattle.cutter.proofs.Refusals.{cut-refused}
 use Rattle.ixohuemil.specs.Answers.{pack_call}

@@ -4,11 +4,11 @@ use Rattle.tmcc.specs.declared.layout.Pointers.{Pointers}
 use Rattle.reassembly.specs.declared.unit.Unit.{Unit}
 use Rattle.words.specs.Channel.{read_unit}
 use Rattle.calls.specs.Record.{is_unit_record}
-use Rattle.packer.specs.declared.pack.Packed.{Packed}
-use Rattle.packer.specs.declared.pack.Packed.TheVariants.{Written, Refused as NotPacked}
+use Rattle.packer.specs.Packed.{Packed}
+use Rattle.packer.specs.Packed.{Written, Refused as NotPacked}
 use Rattle.packer.specs.Packer.{pack_of, number_of as packNumber}
-use Rattle.cutter.specs.declared.slot.CutSlot.{CutSlot}
-use Rattle.cutter.specs.declared.slot.CutSlot.TheVariants.{Cut, Refused as NotCut}
+use Rattle.cutter.specs.Cut.{CutSlot}
+use Rattle.cutter.specs.Cut.{Cut, Refused as NotCut}
 use Rattle.cutter.specs.Slot.{slot_cut, number_of as cutNumber}
 
 -- "Refused calls return the number only": numbers that are lent for the answer are then as they were

@@ -3,9 +3,9 @@
 use Rattle.std.specs.Prelude.{ℕ, ◌≤◌, ◌≡◌, true, ◌⊎◌, List}
 use Rattle.words.specs.Channel.{read_unit, SizedUnit}
 use Rattle.queue.specs.declared.event.Given.{Given}
-use Rattle.packer.specs.declared.pack.Packed.TheVariants.{Written}
+use Rattle.packer.specs.Packed.{Written}
 use Rattle.packer.specs.Packer.{pack_of}
-use Rattle.cutter.specs.declared.slot.CutSlot.TheVariants.{Cut}
+use Rattle.cutter.specs.Cut.{Cut}
 use Rattle.cutter.specs.Slot.{slot_cut}
 use Rattle.calls.specs.Settings.{most64}
 use Rattle.calls.specs.Record.{is_unit_record, unit_record}

@@ -2,7 +2,7 @@
 ghost use Rattle.std.specs.Prelude.{◌≡◌};
 ghost use Rattle.ixohuemil.specs.Answers.{cut_call};
 
-use cutter::slot::{CutSlot, cut_slot};
+use cutter::slot::cut_slot;
 
 // Copies slot `s` of `l` bytes of a run to `output`, and its pointers to `top` and `last`; answers 0. Refused, it answers 75 to 78
 // and writes nothing.
@@ -18,13 +18,12 @@ pub extern "C" fn ixohuemil_cut(
     ensures { (result, top.new, last.new, output.new)
         ≡ cut_call run.now l s output.old top.old last.old }
 {
-    let slot = cut_slot(run, l, s, output);
-    match slot {
-        CutSlot::Refused(number) => number,
-        CutSlot::Cut(pointers) => {
+    match cut_slot(run, l, s, output) {
+        Ok(pointers) => {
             *top = pointers.0;
             *last = pointers.1;
             0
         }
+        Err(refusal) => refusal.into(),
     }
 }

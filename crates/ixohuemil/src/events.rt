@@ -5,6 +5,8 @@ ghost use Rattle.calls.specs.Events.{next_call, events_call};
 ghost use Rattle.calls.specs.Show.{show_call};
 ghost use Rattle.calls.specs.Words.{NextDone, EventsDone};
 
+use crate::answer::{answered, counted};
+
 // The next event, as a record. Refused with 90, 92 or 22.
 #[unsafe(no_mangle)]
 pub extern "C" fn ixohuemil_next(
@@ -17,7 +19,7 @@ pub extern "C" fn ixohuemil_next(
         result state.new collecting.new event.new
         (next_call (state_in state.old) packet.now collecting.old event.old) }
 {
-    calls::events::next_record(state, packet, collecting, event)
+    answered(calls::events::next_record(state, packet, collecting, event))
 }
 
 // Many events, as records one after the other, up to a joined unit; how many, in `count`. Refused with 90, 92 or 22.
@@ -33,7 +35,8 @@ pub extern "C" fn ixohuemil_events(
         result state.new collecting.new events.new count.new
         (events_call (state_in state.old) packet.now collecting.old events.old count.old) }
 {
-    calls::events::events(state, packet, collecting, events, count)
+    let given = calls::events::events(state, packet, collecting, events);
+    counted(given, count)
 }
 
 // A copy of the bytes of a unit that an event has, at the front of `output`; how many, in `len`. Refused with 92 or 93.
@@ -48,5 +51,6 @@ pub extern "C" fn ixohuemil_show(
     ensures { (result, len.new, output.new)
         ≡ show_call packet.now collecting.now event.now output.old len.old }
 {
-    calls::show::copy_unit(packet, collecting, event, output, len)
+    let shown = calls::show::copy_unit(packet, collecting, event, output);
+    counted(shown, len)
 }

@@ -2,8 +2,10 @@
 ghost use Rattle.std.specs.Prelude.{◌≡◌};
 ghost use Rattle.ixohuemil.specs.Answers.{pack_record};
 
+use crate::answer::counted;
 use calls::record::{CARRIED, is_unit};
-use packer::pack::{Packed, pack};
+use packer::pack::pack;
+use refusal::Refusal;
 use words::channel::load_unit;
 
 // Packs the unit of an event, with these bytes, in pieces of at most `m`, the unit's psn in its first packet; answers 0, with the
@@ -22,15 +24,8 @@ pub extern "C" fn ixohuemil_pack(
         ≡ pack_record event.now cid sn m bytes.now output.old len.old }
 {
     if !is_unit(event) {
-        return 92;
+        return Refusal::EventMemory.into();
     }
     let unit = load_unit(event, CARRIED);
-    let packed = pack(unit, cid, sn, m, bytes, output);
-    match packed {
-        Packed::Refused(number) => number,
-        Packed::Written(written) => {
-            *len = written as u64;
-            0
-        }
-    }
+    counted(pack(unit, cid, sn, m, bytes, output), len)
 }

@@ -4,6 +4,7 @@ ghost use Rattle.ixohuemil.specs.Text.{text_call};
 
 use capture::finish::{begin, finish};
 use feeding::feed::feed;
+use state::places::STATE_WORDS;
 
 // Writes the lines of a capture to `text`, as `tlv_capture` prints them with memories of these lengths, and answers how many bytes
 // it wrote. Where no longest line would fit any more it stops: lines are missing then, the last one among them.
@@ -18,7 +19,7 @@ pub extern "C" fn ixohuemil_text(
         ≡ text_call capture.now packet.old collecting.old text.old }
 {
     let mut command = [0u8; 65538];
-    let mut words = [0u64; 751];
+    let mut words = [0u64; STATE_WORDS];
     let fresh = begin(&mut words);
     let fed = feed(
         fresh,
@@ -30,6 +31,5 @@ pub extern "C" fn ixohuemil_text(
         collecting,
         text,
     );
-    let session = fed.session;
-    finish(session.tally, text, fed.written) as u64
+    finish(fed.session.tally, text, fed.written) as u64
 }

@@ -6,12 +6,12 @@ use Rattle.calls.proofs.EventsLaws.{events-few, events-short, events-done}
 use Rattle.calls.proofs.events.events.Goals as goal
 
 pub returns-then-words-lt-STATE_WORDS : goal.returns-then-words-lt-STATE_WORDS
-returns-then-words-lt-STATE_WORDS c =
+returns-then-words-lt-STATE_WORDS c count =
     let h = c.if-words-lt-STATE_WORDS.true in
     record { short = λ g. (refl, refl, refl, refl); long = λ g. absurd (omega arith); kept = λ z. refl; exact = exact_none _ }
 
 pub returns-then-records-lt-RECORD_WORDS : goal.returns-then-records-lt-RECORD_WORDS
-returns-then-records-lt-RECORD_WORDS c =
+returns-then-records-lt-RECORD_WORDS c count =
     let h = c.if-words-lt-STATE_WORDS.false in
     record {
       short = λ g. absurd (omega arith);
@@ -21,32 +21,27 @@ returns-then-records-lt-RECORD_WORDS c =
     }
 
 pub returns-then-is_short : goal.returns-then-is_short
-returns-then-is_short c =
-    let f = c in
-    let h = f.if-words-lt-STATE_WORDS.false in
+returns-then-is_short c count =
+    let h = c.if-words-lt-STATE_WORDS.false in
     record {
       short = λ g. absurd (omega arith);
-      long = λ g. sym (events-short _ _ _ _ _ f.if-records-lt-RECORD_WORDS.false (sym c.is_short.ensures ∙ c.if-is_short.true));
+      long = λ g. sym (events-short _ _ _ _ _ c.if-records-lt-RECORD_WORDS.false (sym c.is_short.ensures ∙ c.if-is_short.true));
       kept = λ z. refl;
       exact = exact_none _;
     }
 
 pub read_events-requires : goal.read_events-requires
 read_events-requires c =
-    let e = c in
-    (e.if-words-lt-STATE_WORDS.false, sym e.is_short.ensures ∙ e.if-is_short.false)
+    (c.if-words-lt-STATE_WORDS.false, sym c.is_short.ensures ∙ c.if-is_short.false)
 
 pub returns : goal.returns
-returns c =
-    let r = c in
-    let e = r in
-    let f = e in
-    let h = f.if-words-lt-STATE_WORDS.false in
+returns c count =
+    let h = c.if-words-lt-STATE_WORDS.false in
     record {
       short = λ g. absurd (omega arith);
       long = λ g.
-          sym (events-done _ _ _ _ _ f.if-records-lt-RECORD_WORDS.false (sym e.is_short.ensures ∙ e.if-is_short.false) _
-          r.read_events.ensures.answer);
+          sym (events-done _ _ _ _ _ c.if-records-lt-RECORD_WORDS.false (sym c.is_short.ensures ∙ c.if-is_short.false) _
+          c.read_events.ensures.answer);
       kept = λ z. absurd (z refl);
-      exact = r.read_events.ensures.exact;
+      exact = c.read_events.ensures.exact;
     }

@@ -1,9 +1,10 @@
 -- Why next_record meets its contract: too few words, a record that is too short, a refused next, or its event.
-use mathlib.Core.Path.{◌≡◌, refl, sym, ◌∙◌}
+use mathlib.Core.Path.{refl, sym}
 use native.Mathlib.Omega.{arith}
+use Rattle.std.proofs.lemmas.Result.{err_from_is_err_and}
 use Rattle.state.proofs.Clean.{exact_none}
-use Rattle.calls.specs.Events.{refusal_of}
-use Rattle.calls.proofs.EventsLaws.{refused-event, event-put, next-few, next-done, next-refused}
+use Rattle.calls.proofs.EventsLaws.{unrefused-event, event-put, next-few, next-done, next-refused}
+use Rattle.refusal.proofs.Numbers.{number-some}
 use Rattle.calls.proofs.events.next_record.Goals as goal
 
 pub returns-then-words-lt-STATE_WORDS : goal.returns-then-words-lt-STATE_WORDS
@@ -21,35 +22,28 @@ returns-then-out-lt-RECORD_WORDS c =
       exact = exact_none _;
     }
 
-pub returns-then-refusal-eq0 : goal.returns-then-refusal-eq0
-returns-then-refusal-eq0 c =
-    let p = c in
-    let f = p in
-    let n = f in
-    let d = n.next-event.ensures in
-    let r = n in
-    let h = r.if-words-lt-STATE_WORDS.false in
-    let z = sym f.refusal-refusal.ensures ∙ f.if-refusal-eq0.true in
+pub returns-in_err-event : goal.returns-in_err-event
+returns-in_err-event c =
+    let h = c.if-words-lt-STATE_WORDS.false in
+    let p = err_from_is_err_and c.from_residual.result c.from_residual.ensures.1 in
+    let d = c.in_err-event.ensures in
+    rw (p.1, p.2)
+    (record {
+      short = λ g. absurd (omega arith);
+      long = λ g. sym (next-refused _ _ _ _ c.if-out-lt-RECORD_WORDS.false _ (d.long h) (number-some _));
+      kept = λ y. d.kept _ refl;
+      exact = d.exact;
+    })
+
+pub returns : goal.returns
+returns c =
+    let h = c.if-words-lt-STATE_WORDS.false in
+    let d = c.in_ok-event.ensures in
     record {
       short = λ g. absurd (omega arith);
       long = λ g.
-          rw (f.if-refusal-eq0.true, event-put _ _ 0 _ r.if-out-lt-RECORD_WORDS.false p.put_event.ensures)
-          (sym (next-done _ _ _ _ r.if-out-lt-RECORD_WORDS.false _ (d.long h) z));
-      kept = λ y. absurd (y f.if-refusal-eq0.true);
-      exact = d.exact;
-    }
-
-pub returns-else-refusal-eq0 : goal.returns-else-refusal-eq0
-returns-else-refusal-eq0 c =
-    let n = c in
-    let d = n.next-event.ensures in
-    let r = n in
-    let h = r.if-words-lt-STATE_WORDS.false in
-    let e = c.refusal-refusal.ensures in
-    let z : refusal_of n.next-event.result ≡ 0 → ⊥ = λ y. c.if-refusal-eq0.false (e ∙ y) in
-    record {
-      short = λ g. absurd (omega arith);
-      long = λ g. rw e (sym (next-refused _ _ _ _ r.if-out-lt-RECORD_WORDS.false _ (d.long h) z));
-      kept = λ y. d.kept _ (refused-event _ z);
+          rw (event-put _ _ 0 _ c.if-out-lt-RECORD_WORDS.false c.put_event.ensures)
+          (sym (next-done _ _ _ _ c.if-out-lt-RECORD_WORDS.false _ (d.long h) (unrefused-event c.in_ok-event.event)));
+      kept = λ y. absurd (y refl);
       exact = d.exact;
     }

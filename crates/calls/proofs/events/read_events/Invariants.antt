@@ -13,14 +13,9 @@ abbrev pub invariant-loop-n : goal.invariant-loop-n
 invariant-loop-n l =
     record {
       same :
-          gave l.n l.at l.records (events_of (l.room - l.n) (state_in l.words) l.packet l.collecting)
+          gave l.n (l.n * 24) l.records (events_of (l.room - l.n) (state_in l.words) l.packet l.collecting)
           ≡ events_left l.initial.records (events_of l.room (state_in l.initial.words) l.packet l.initial.collecting);
-      within : l.n ≤ l.room;
-      place : l.at ≡ 24 * l.n;
       words : state_words ≤ length l.words;
       exact : Exact l.initial.words l.words;
       suffice : short_by (state_in l.words).config (length l.packet) (length l.collecting) ≡ false;
     }
-
-abbrev pub decreases-loop-n : goal.decreases-loop-n
-decreases-loop-n l = l.room - l.n

@@ -4,4 +4,4 @@ use Rattle.calls.proofs.record.load_place.Goals as goal
 
 pub returns : goal.returns
 unfolding read_place
-returns c = rw c.memory_of-memory.ensures
+returns c = rw c.from.ensures

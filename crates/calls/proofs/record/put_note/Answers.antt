@@ -1,17 +1,14 @@
 -- Why put_note meets its contract: six stores, and zeros behind them.
 use Prim.Native.Nat.{ℕ}
-use mathlib.Core.Path.{refl, ◌∙◌}
+use mathlib.Core.Path.{refl}
 use mathlib.Core.List.{List, [], ◌∷◌}
 use native.Mathlib.Nat.{add-zero}
 use native.Mathlib.Omega.{arith}
-use lib.ListN.{length-set, replicate}
+use lib.ListN.{replicate}
 use Rattle.wire.specs.Words.{put_from}
 use Rattle.wire.proofs.WordsLaws.{stores, put_on}
 use Rattle.calls.specs.Record.{note_record}
 use Rattle.calls.proofs.record.put_note.Goals as goal
-
-pub shape_of-t : goal.shape_of-t
-shape_of-t c = c.put_zeros.ensures.size ∙ simp length-set
 
 pub returns : goal.returns
 unfolding note_record put_from
@@ -22,24 +19,7 @@ returns c =
     record {
       put =
           put_on t _ _ i 6 18 24 xs (replicate 18 0) refl refl
-          (rw (add-zero i) at (stores t i 6 xs refl (omega (arith, c.requires)))) c.put_zeros.ensures;
+          (rw (add-zero i) at (stores t i 6 xs refl (omega (arith, c.requires))))
+          (rw (c.from.ensures, c.from-2.ensures) at c.put_zeros.ensures);
       sized = (omega (arith, c.well_formed), omega (arith, c.well_formed));
     }
-
-pub bounds-t-i-2 : goal.bounds-t-i-2
-bounds-t-i-2 c = simp length-set (omega arith)
-
-pub bounds-t-i-3 : goal.bounds-t-i-3
-bounds-t-i-3 c = simp length-set (omega arith)
-
-pub bounds-t-i-4 : goal.bounds-t-i-4
-bounds-t-i-4 c = simp length-set (omega arith)
-
-pub bounds-t-i-5 : goal.bounds-t-i-5
-bounds-t-i-5 c = simp length-set (omega arith)
-
-pub bounds-t-i-6 : goal.bounds-t-i-6
-bounds-t-i-6 c = simp length-set (omega arith)
-
-pub put_zeros-requires : goal.put_zeros-requires
-put_zeros-requires c = simp length-set (omega arith)

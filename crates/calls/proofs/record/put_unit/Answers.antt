@@ -1,6 +1,6 @@
 -- Why put_unit meets its contract: five stores, what the unit carries, and zeros behind it.
 use Prim.Native.Nat.{ℕ, ◌+◌}
-use mathlib.Core.Path.{◌≡◌, refl, ◌∙◌}
+use mathlib.Core.Path.{◌≡◌, refl}
 use mathlib.Core.List.{List, [], ◌∷◌, ◌++◌}
 use native.Mathlib.Nat.{add-zero}
 use native.Mathlib.Omega.{arith}
@@ -10,15 +10,12 @@ use Rattle.wire.proofs.WordsLaws.{stores, put_on}
 use Rattle.words.specs.Channel.{unit_words}
 use Rattle.words.proofs.ChannelLaws.{length-unit}
 use Rattle.queue.specs.Words.{memory_word}
+use Rattle.queue.proofs.WordsLaws.{memory-number}
 use Rattle.calls.specs.Record.{unit_record}
 use Rattle.calls.proofs.record.put_unit.Goals as goal
 
 pub put_zeros-requires : goal.put_zeros-requires
 put_zeros-requires c = let l = c.store_unit.ensures.put.size in rw l (simp length-set (omega arith))
-
-pub shape_of-t : goal.shape_of-t
-shape_of-t c =
-    c.put_zeros.ensures.size ∙ c.store_unit.ensures.put.size ∙ simp length-set
 
 pub returns : goal.returns
 unfolding unit_record put_from
@@ -26,7 +23,7 @@ returns c =
     let t = c.args.t.now in
     let i = c.args.i in
     let g = c.args.given in
-    let e = c.memory_number.ensures in
+    let e = memory-number g.place.memory in
     let xs : List ℕ = 2 ∷ 0 ∷ memory_word g.place.memory ∷ g.place.start ∷ g.place.len ∷ [] in
     let a : i + 5 + 10 ≡ i + 15 = omega arith in
     record {
@@ -37,18 +34,3 @@ returns c =
           c.put_zeros.ensures;
       sized = c.store_unit.ensures.sized;
     }
-
-pub bounds-t-i-2 : goal.bounds-t-i-2
-bounds-t-i-2 c = simp length-set (omega arith)
-
-pub bounds-t-i-3 : goal.bounds-t-i-3
-bounds-t-i-3 c = simp length-set (omega arith)
-
-pub bounds-t-i-4 : goal.bounds-t-i-4
-bounds-t-i-4 c = simp length-set (omega arith)
-
-pub bounds-t-i-5 : goal.bounds-t-i-5
-bounds-t-i-5 c = simp length-set (omega arith)
-
-pub store_unit-requires : goal.store_unit-requires
-store_unit-requires c = simp length-set (omega arith)

@@ -1,42 +1,31 @@
-use Prim.Native.Nat.{ℕ, ◌-◌}
+-- Why put_zeros meets its contract: the part is filled with 0, and the others stay.
+use Prim.Native.Nat.{ℕ, ◌+◌, ◌-◌, ◌≤◌}
 use mathlib.Core.Path.{◌≡◌}
+use mathlib.Core.List.{List}
 use native.Mathlib.Omega.{arith}
-use lib.ListN.{replicate, get_or-replicate}
-use Rattle.wire.proofs.WordsLaws.{put-start, put_next}
+use lib.ListN.{length, take, drop, replicate, length-replicate, length-take, length-drop}
+use borrow.Rule.Slice.PartMut.{put_mid}
+use Rattle.std.proofs.Common.{rules}
+use Rattle.std.proofs.lemmas.List.{places}
+use Rattle.wire.specs.Words.{Put}
 use Rattle.calls.proofs.record.put_zeros.Goals as goal
 
-pub loop-j-init : goal.loop-j-init
-loop-j-init c = (omega arith, put-start _ _ _)
-
-pub bounds-t-i : goal.bounds-t-i
-bounds-t-i c = let p = c.loop-j.invariant.1.size in omega arith
-
-pub loop-j-preserved : goal.loop-j-preserved
-loop-j-preserved c =
-    let l = c.loop-j in
-    let s = c in (
-      omega arith,
-      rw (get_or-replicate {A = ℕ} s.args.n l.j 0 0 (omega arith)) at
-          (put_next _ _ _ l.j (replicate s.args.n 0) (omega (arith, s.requires)) l.invariant.1),
-    )
-
-pub shape_of-t : goal.shape_of-t
-shape_of-t c = c.loop-j.invariant.1.size
+-- a part that is written anew
+part_put : (t xs : List ℕ) (a k : ℕ) → length xs ≡ k → a + k ≤ length t → Put t (put_mid a k t xs) a k xs
+part_put t xs a k l h =
+    record {
+      size = search (rules, places);
+      holds = λ j g. search (rules, places);
+      below = λ m g. search (rules, places);
+      above = λ m g. search (rules, places);
+    }
 
 pub returns : goal.returns
 returns c =
-    let l = c.loop-j in
-    let e : l.j ≡ c.args.n = omega arith in
-    rw e at l.invariant.1
-
-pub overflow_add-t : goal.overflow_add-t
-overflow_add-t c = omega arith
-
-pub offset_bounds-t-i : goal.offset_bounds-t-i
-offset_bounds-t-i c = omega arith
-
-pub overflow_add-j : goal.overflow_add-j
-overflow_add-j c = omega arith
-
-pub loop-j-smaller : goal.loop-j-smaller
-loop-j-smaller c = omega arith
+    let i = c.args.i in
+    let n = c.args.n in
+    let t = c.args.t.now in
+    let e : i + n - i ≡ n = omega arith in
+    let l : length (take (i + n - i) (drop i t)) ≡ n = simp (length-take, length-drop) (omega arith) in
+    let f : c.fill.new.self ≡ replicate n 0 = rw l at (c.fill.ensures.after (λ y h. search rules)) in
+    rw (f, e) (part_put t (replicate n 0) i n (length-replicate n 0) (omega arith))

@@ -4,4 +4,4 @@ use Rattle.calls.proofs.settings.config_of.Goals as goal
 
 pub returns : goal.returns
 unfolding config_in
-returns c = rw c.ids_of-ids.ensures
+returns c = rw c.ids_of.ensures

@@ -2,13 +2,10 @@
 use mathlib.Core.Path.{sym, ◌∙◌, ap}
 use mathlib.Core.List.{[]}
 use native.Mathlib.Omega.{arith}
-use Rattle.state.proofs.Leaves.{leaves-short, leaves-refused}
+use Rattle.state.proofs.Leaves.{leaves-refused}
 use Rattle.state.specs.State.{Called}
 use Rattle.calls.proofs.SettingsLaws.{start-by, start-not, settings-length}
 use Rattle.calls.proofs.settings.start_by.Goals as goal
-
-pub returns-then-words-lt-STATE_WORDS : goal.returns-then-words-lt-STATE_WORDS
-returns-then-words-lt-STATE_WORDS c = record { leaves = leaves-short _ _ _ c.if-words-lt-STATE_WORDS.true; clean = λ z. absurd (omega arith) }
 
 pub returns-then-not-are_settings : goal.returns-then-not-are_settings
 returns-then-not-are_settings c =

@@ -3,14 +3,8 @@ use mathlib.Core.Path.{sym}
 use Rattle.ixohuemil.proofs.AnswersLaws.{cut-taken, cut_left}
 use Rattle.ixohuemil.proofs.cut.ixohuemil_cut.Goals as goal
 
-pub returns-in-Refused : goal.returns-in-Refused
-returns-in-Refused c =
-    let d = c in
-    let e = rw c.in-Refused.is at d.cut_slot-slot.ensures in
-    sym (cut_left _ _ _ _ _ _ _ _ e)
+pub returns-in-Ok : goal.returns-in-Ok
+returns-in-Ok c = sym (cut-taken _ _ _ _ _ _ _ _ c.in-Ok.ensures)
 
-pub returns-in-Cut : goal.returns-in-Cut
-returns-in-Cut c =
-    let d = c in
-    let e = rw c.in-Cut.is at d.cut_slot-slot.ensures in
-    sym (cut-taken _ _ _ _ _ _ _ _ e)
+pub returns-in-Err : goal.returns-in-Err
+returns-in-Err c = rw c.into.ensures (sym (cut_left _ _ _ _ _ _ _ _ c.in-Err.ensures))
