@@ -5,7 +5,7 @@ use mathlib.Core.List.{List, [], ◌∷◌, map}
 use native.Mathlib.Omega.{arith}
 use lib.ListN.{length, get_or, drop, length-map}
 use lib.Seq.{drop-cons}
-use Rattle.tmcc.specs.declared.layout.Layout.{Layout}
+use Rattle.tmcc.specs.Layout.{Layout}
 use Rattle.tmcc.specs.Layout.{blank_layout, layout_of}
 use Rattle.tmcc.specs.Block.{own_stream}
 use Rattle.tmcc.proofs.Laws.{accepted-layout, layout-sizes, layout-most}

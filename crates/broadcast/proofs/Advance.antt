@@ -14,9 +14,9 @@ use Rattle.tlv.specs.declared.note.SlotNote.TheVariants.{TooLong}
 use Rattle.tlv.specs.Notes.{number_of}
 use Rattle.tlv.specs.Packet.{total, complete, too_long, cut, packet_at, in_front}
 use Rattle.tlv.proofs.CutsLaws.{complete-fits, cut-end, cut-more}
-use Rattle.delivery.specs.declared.cursor.Advanced.{Advanced}
-use Rattle.queue.specs.declared.event.Event.TheVariants.{Note}
-use Rattle.delivery.specs.declared.cursor.Found.TheVariants.{Event, Packet, Tail, Done}
+use Rattle.delivery.specs.Found.{Advanced}
+use Rattle.queue.specs.Event.{Note}
+use Rattle.delivery.specs.Found.{Event, Packet, Tail, Done}
 use Rattle.intake.specs.declared.held.Cursor.{Cursor}
 use Rattle.intake.specs.declared.held.Held.{Held}
 use Rattle.intake.specs.Slot.{holding, noted}

@@ -7,8 +7,8 @@ use native.Mathlib.Omega.{arith}
 use lib.Dec.{eqb}
 use lib.ListN.{length, get_or, length-replicate}
 use Rattle.wire.specs.Field.{be}
-use Rattle.tmcc.specs.declared.layout.Layout.{Layout}
-use Rattle.tmcc.specs.declared.block.Decoded.{Decoded}
+use Rattle.tmcc.specs.Layout.{Layout}
+use Rattle.tmcc.specs.Decoded.{Decoded}
 use Rattle.wire.specs.Tab.{tab}
 use Rattle.tmcc.specs.Count.{all_below, count_below, last_below}
 use Rattle.tmcc.specs.Mode.{
@@ -72,7 +72,7 @@ use Rattle.frames.specs.Slot.{wrong_length}
 use Rattle.broadcast.specs.Account.{read_of, events, account}
 use Rattle.broadcast.specs.Carried.{inputs, row_inputs, carried_units, intact_units, contents, Few}
 use Rattle.intake.specs.Slot.{packet_memory, held_bytes}
-use Rattle.queue.specs.declared.event.Event.TheVariants.{Nothing}
+use Rattle.queue.specs.Event.{Nothing}
 use Rattle.state.specs.State.{State}
 use Rattle.receiver.specs.Next.{next_of}
 use Rattle.broadcast.specs.Drains.{Shown, note, unit, strip, Drains, stops, notes, units, HeldIs}

@@ -10,10 +10,10 @@ use Rattle.wire.specs.Memory.{part_of}
 use Rattle.tlv.specs.Run.{Labelled, Event as Slot-event, note as slot-note, packet as slot-packet, State as Slot-state}
 use Rattle.reassembly.specs.declared.config.Config.{Config}
 use Rattle.reassembly.specs.Run.{Lane, Event as Account-event}
-use Rattle.queue.specs.declared.event.Event.{Event}
-use Rattle.queue.specs.declared.event.Event.TheVariants.{Nothing, Note, Unit, Refused}
-use Rattle.delivery.specs.declared.cursor.Found.{Found}
-use Rattle.delivery.specs.declared.cursor.Found.TheVariants.{Event as AnEvent, Packet, Tail, Done}
+use Rattle.queue.specs.Event.{Event}
+use Rattle.queue.specs.Event.{Nothing, Note, Unit, Refused}
+use Rattle.delivery.specs.Found.{Found}
+use Rattle.delivery.specs.Found.{Event as AnEvent, Packet, Tail, Done}
 use Rattle.intake.specs.declared.held.Cursor.{Cursor}
 use Rattle.words.specs.Config.{kept_config}
 use Rattle.state.specs.State.{Frame, State, with_slot, with_queue}

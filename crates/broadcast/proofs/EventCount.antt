@@ -8,14 +8,10 @@ use borrow.Author.Tests.{eqb-false}
 use lib.Dec.{eqb}
 use lib.ListN.{length, drop, length-drop, length-append, length-map}
 use Rattle.watch.specs.Given.{lookup_of}
-use Rattle.mmtp.specs.declared.flow.Flow.{Flow}
-use Rattle.mmtp.specs.declared.flow.Flow.TheVariants.{Silent as OtherFlow, Noted as NotedFlow, Mmtp}
-use Rattle.mmtp.specs.declared.packet.Reading.{Reading}
-use Rattle.mmtp.specs.declared.packet.Reading.TheVariants.{Silent as Unwatched, Noted as NotedPacket, Good as GoodPacket}
+use Rattle.mmtp.specs.Flow.{Flow, Silent as OtherFlow, Noted as NotedFlow, Mmtp, flow_of}
+use Rattle.mmtp.specs.Packet.{Reading, Silent as Unwatched, Noted as NotedPacket, Good as GoodPacket, reading_of}
 use Rattle.mmtp.specs.declared.payload.Payload.{Payload}
-use Rattle.mmtp.specs.Flow.{flow_of}
 use Rattle.mmtp.proofs.FlowLaws.{mmtp_place}
-use Rattle.mmtp.specs.Packet.{reading_of}
 use Rattle.mmtp.specs.Payload.{pieces_of}
 use Rattle.mmtp.proofs.PayloadLaws.{pieces_single, pieces_aggregated}
 use Rattle.mmtp.specs.Unit.{Aggregate, all_read, unit_fits, unit_then, unit_length, after_unit, aggregate_by, aggregate, length_bytes}
@@ -24,11 +20,11 @@ use Rattle.reassembly.specs.declared.config.Rules.{Rules}
 use Rattle.reassembly.specs.declared.config.Config.{Config}
 use Rattle.reassembly.specs.declared.join.Action.{Action}
 use Rattle.reassembly.specs.declared.join.Action.TheVariants.{Nothing, Whole as GiveWhole, Store, Complete}
-use Rattle.reassembly.specs.declared.join.Joined.{Joined}
+use Rattle.reassembly.specs.Joined.{Joined}
 use Rattle.reassembly.specs.declared.note.JoinNote.TheVariants.{AboveLimit}
 use Rattle.reassembly.specs.Notes.{number_of}
 use Rattle.reassembly.specs.Join.{notes_of, join_of}
-use Rattle.reassembly.specs.Run.{Input, note, Lane, given, lane_after, step}
+use Rattle.reassembly.specs.Run.{Input, Lane, given, lane_after, step}
 use Rattle.broadcast.specs.Account.{input_from, read_of, after_read, read_by, flow_by}
 use Rattle.broadcast.specs.PacketClaims.{FewEvents}
 

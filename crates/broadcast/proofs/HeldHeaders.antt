@@ -18,10 +18,10 @@ use Rattle.reassembly.specs.declared.config.Config.{Config}
 use Rattle.intake.specs.declared.held.Cursor.{Cursor}
 use Rattle.intake.specs.declared.held.Held.{Held}
 use Rattle.intake.specs.Slot.{packet_memory, searching, holding, noted, held_bytes}
-use Rattle.queue.specs.declared.event.Event.{Event}
-use Rattle.queue.specs.declared.event.Event.TheVariants.{Nothing, Note, Unit, Refused}
-use Rattle.delivery.specs.declared.cursor.Found.{Found}
-use Rattle.delivery.specs.declared.cursor.Found.TheVariants.{Event as AnEvent, Packet, Tail, Done}
+use Rattle.queue.specs.Event.{Event}
+use Rattle.queue.specs.Event.{Nothing, Note, Unit, Refused}
+use Rattle.delivery.specs.Found.{Found}
+use Rattle.delivery.specs.Found.{Event as AnEvent, Packet, Tail, Done}
 use Rattle.queue.specs.Waiting.{Queue}
 use Rattle.delivery.specs.Cursor.{advanced_of, turn_by, turn_of, left}
 use Rattle.queue.specs.Queue.{event_taken}

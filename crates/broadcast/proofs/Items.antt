@@ -7,7 +7,7 @@ use native.Mathlib.Omega.{arith}
 use lib.ListN.{length, get_or}
 use borrow.Author.Tests.{lt-leb, le-ltb}
 use native.Mathlib.Numerals.{add-one}
-use Rattle.tmcc.specs.declared.layout.Layout.{Layout}
+use Rattle.tmcc.specs.Layout.{Layout}
 use Rattle.tmcc.specs.declared.layout.Pointers.{Pointers}
 use Rattle.tlv.specs.Run.{Stepped, State as Slot-state, step, given, lost}
 use Rattle.reassembly.specs.declared.config.Config.{Config}
@@ -26,7 +26,7 @@ use Rattle.broadcast.specs.Machines.{At}
 use Rattle.broadcast.specs.PacketClaims.{QueueEmpty, QueueGood}
 use Rattle.broadcast.proofs.SlotReads.{own-slot, lost-slot as lost-slot-reads, lost-frame as lost-frame-reads}
 use Rattle.broadcast.specs.Frames.{slot_at}
-use Rattle.broadcast.specs.Calls.{Machine, Call, frame, lost-frame, slot, lost-slot, accepted, Did, did}
+use Rattle.broadcast.specs.Calls.{Machine, Call, lost-frame, slot, lost-slot, accepted, Did, did}
 use Rattle.broadcast.proofs.Draining.{Settles, settle}
 
 -- an empty queue has nothing to give

@@ -15,7 +15,7 @@ use Rattle.reassembly.specs.declared.channel.Channel.{Channel}
 use Rattle.reassembly.specs.declared.join.Piece.{Piece}
 use Rattle.reassembly.specs.declared.join.Action.{Action}
 use Rattle.reassembly.specs.declared.join.Action.TheVariants.{Nothing, Whole as GiveWhole, Store, Complete}
-use Rattle.reassembly.specs.declared.join.Joined.{Joined}
+use Rattle.reassembly.specs.Joined.{Joined}
 use Rattle.reassembly.specs.declared.note.JoinNote.TheVariants.{Gap, Headless, Apart}
 use Rattle.reassembly.specs.Notes.{number_of}
 use Rattle.reassembly.specs.Unit.{agrees}

@@ -17,7 +17,7 @@ use Rattle.reassembly.specs.declared.config.Rules.{Rules}
 use Rattle.reassembly.specs.declared.channel.Phase.{Phase}
 use Rattle.reassembly.specs.declared.channel.Phase.TheVariants.{Unheard, Waiting, Idle, Open}
 use Rattle.reassembly.specs.declared.channel.OpenUnit.{OpenUnit}
-use Rattle.reassembly.specs.declared.join.Joined.{Joined}
+use Rattle.reassembly.specs.Joined.{Joined}
 use Rattle.reassembly.specs.Run.{gathered, given}
 use Rattle.queue.specs.declared.located.Located.{Located}
 use Rattle.delivery.specs.Packet.{bytes_at, unit_in, base_of, collected, give_of}

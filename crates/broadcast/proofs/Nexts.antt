@@ -4,7 +4,7 @@ use mathlib.Core.Path.{◌≡◌, sym, ap, ◌∙◌, subst}
 use mathlib.Core.List.{List, [], ◌∷◌}
 use native.Mathlib.Omega.{arith}
 use lib.ListN.{length}
-use Rattle.queue.specs.declared.event.Event.TheVariants.{Nothing, Note, Unit}
+use Rattle.queue.specs.Event.{Nothing, Note, Unit}
 use Rattle.queue.specs.declared.event.Given.{Given}
 use Rattle.reassembly.specs.declared.config.Config.{Config}
 use Rattle.state.specs.State.{State}

@@ -9,32 +9,27 @@ use lib.Dec.{eqb}
 use lib.ListN.{length, get_or, set, drop, length-set}
 use lib.Seq.{get_or-set_same, get_or-set_other}
 use Rattle.wire.specs.Memory.{part_of}
-use Rattle.mmtp.specs.declared.flow.Flow.{Flow}
-use Rattle.mmtp.specs.declared.flow.Flow.TheVariants.{Silent as OtherFlow, Noted as NotedFlow, Mmtp}
-use Rattle.mmtp.specs.declared.packet.Reading.{Reading}
-use Rattle.mmtp.specs.declared.packet.Reading.TheVariants.{Silent as Unwatched, Noted as NotedPacket, Good as GoodPacket}
+use Rattle.mmtp.specs.Flow.{Flow, Silent as OtherFlow, Noted as NotedFlow, Mmtp, flow_of}
+use Rattle.mmtp.specs.Packet.{Reading, Silent as Unwatched, Noted as NotedPacket, Good as GoodPacket, reading_of}
 use Rattle.watch.specs.Given.{lookup_of}
 use Rattle.watch.proofs.GivenLaws.{lookup_at}
 use Rattle.mmtp.specs.Notes as packet
 use Rattle.mmtp.proofs.NotesLaws.{not_none}
-use Rattle.mmtp.specs.Flow.{flow_of}
 use Rattle.mmtp.proofs.FlowLaws.{mmtp_place}
-use Rattle.mmtp.specs.Packet.{reading_of}
 use Rattle.mmtp.proofs.PacketLaws.{packet-is, packet-place}
 use Rattle.mmtp.specs.Payload.{units_fit, pieces_of}
 use Rattle.mmtp.proofs.PayloadLaws.{payload_read}
 use Rattle.reassembly.specs.declared.config.Rules.{Rules}
 use Rattle.reassembly.specs.declared.channel.Channel.{Channel}
 use Rattle.reassembly.specs.declared.config.Config.{Config}
-use Rattle.reassembly.specs.declared.join.Joined.{Joined}
+use Rattle.reassembly.specs.Joined.{Joined}
 use Rattle.reassembly.specs.Channel.{unheard}
 use Rattle.reassembly.specs.declared.note.JoinNote.TheVariants.{AboveLimit}
 use Rattle.reassembly.specs.Notes.{number_of}
 use Rattle.reassembly.specs.Join.{notes_of}
 use Rattle.reassembly.specs.Run.{Input, Event, note as account-note, Lane, lane_after, events_of, step, with_lane}
 use Rattle.queue.specs.declared.located.Located.{Located}
-use Rattle.delivery.specs.declared.packet.Arrived.{Arrived}
-use Rattle.delivery.specs.declared.packet.Arrived.TheVariants.{Good}
+use Rattle.delivery.specs.Arrived.{Arrived, Good}
 use Rattle.queue.specs.Waiting.{Queue}
 use Rattle.words.specs.Config.{KeptConfig}
 use Rattle.state.specs.State.{State, with_queue, with_channels}

@@ -15,7 +15,6 @@ use Rattle.mmtp.proofs.UnitLaws.{aggregate-none, aggregate-next}
 use Rattle.queue.specs.Waiting.{Aggregate, Give, Nothing as NoUnit, One, Many, Queue}
 use Rattle.queue.specs.Queue.{event_taken, give_by}
 use Rattle.receiver.specs.Show.{show_of}
-use Rattle.broadcast.specs.Drains.{unit}
 use Rattle.broadcast.specs.Pending.{queue_pending}
 use Rattle.broadcast.specs.PacketClaims.{GiveGood, QueueGood, Takes, QueueGives}
 use Rattle.broadcast.proofs.Parts.{part-part}

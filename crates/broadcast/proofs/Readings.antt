@@ -7,7 +7,7 @@ use native.Mathlib.Omega.{arith}
 use lib.Dec.{eqb, ltb}
 use lib.ListN.{length, get_or}
 use borrow.Author.Tests.{eqb-true, ltb-false}
-use Rattle.tmcc.specs.declared.layout.Layout.{Layout}
+use Rattle.tmcc.specs.Layout.{Layout}
 use Rattle.tmcc.specs.Block.{decode_of}
 use Rattle.tmcc.specs.Layout.{blank_layout}
 use Rattle.tlv.proofs.Runs.{run-append}
@@ -17,7 +17,7 @@ use Rattle.reassembly.specs.Run.{Lane, fresh}
 use Rattle.intake.specs.Slot.{packet_memory}
 use Rattle.words.specs.Config.{kept_config}
 use Rattle.state.specs.State.{Frame as ReceiverFrame, State, accepted as acceptedAs, refused as refusedWith}
-use Rattle.queue.specs.declared.event.Event.TheVariants.{Nothing, Refused}
+use Rattle.queue.specs.Event.{Nothing, Refused}
 use Rattle.receiver.specs.Next.{answered, read_on, read_all, next_of}
 use Rattle.delivery.specs.Cursor.{left}
 use Rattle.frames.specs.Slot.{wrong_length, slot_of, lost_slot_of, loss_taken, due_own, short_by, slot_refusal}

@@ -3,7 +3,7 @@ use Prim.Native.Nat.{ℕ}
 use mathlib.Core.Path.{◌≡◌, refl, sym, ap, ◌∙◌, subst}
 use mathlib.Core.List.{List, [], ◌∷◌, ◌++◌}
 use native.Mathlib.Omega.{arith}
-use Rattle.queue.specs.declared.event.Event.TheVariants.{Nothing, Note, Unit}
+use Rattle.queue.specs.Event.{Nothing, Note, Unit}
 use Rattle.queue.specs.declared.event.Given.{Given}
 use Rattle.state.specs.State.{Answer as NextAnswer, State}
 use Rattle.receiver.specs.Next.{next_of}

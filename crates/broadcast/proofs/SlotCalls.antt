@@ -5,7 +5,7 @@ use mathlib.Core.Bool.{Bool, true, false, cond}
 use mathlib.Core.List.{List, [], ◌∷◌, ◌++◌, map, map-append, append_assoc}
 use native.Mathlib.Omega.{arith}
 use lib.ListN.{length, get_or, length-map}
-use Rattle.tmcc.specs.declared.layout.Layout.{Layout}
+use Rattle.tmcc.specs.Layout.{Layout}
 use Rattle.tlv.specs.Run.{Stepped, State as Slot-state, Arrival, given, lost, step, run, state_after, Event as Slot-event}
 use Rattle.reassembly.specs.declared.config.Config.{Config}
 use Rattle.reassembly.specs.Run.{Lane}
@@ -13,28 +13,7 @@ use Rattle.frames.specs.Slot.{wrong_length}
 use Rattle.frames.proofs.SlotLaws.{right-length}
 use Rattle.broadcast.specs.Account.{events, lanes_after, after_event}
 use Rattle.broadcast.specs.Drains.{Shown, strip}
-use Rattle.broadcast.specs.Calls.{
-  Machine,
-  Call,
-  frame,
-  lost-frame,
-  slot,
-  lost-slot,
-  next,
-  accepted,
-  did,
-  Todo,
-  call,
-  drain,
-  Made,
-  own,
-  Follows,
-  all_shown,
-  refusals,
-  note_shown,
-  refusal_in,
-  Answer,
-}
+use Rattle.broadcast.specs.Calls.{Machine, Call, frame, lost-frame, slot, lost-slot, next, accepted, did, Todo, call, drain, Made, Follows, all_shown, refusals, note_shown, refusal_in, Answer}
 use Rattle.broadcast.specs.Frames.{slot_call, slots_todo, slot_at, if_own, arriving, slots_arrive}
 use Rattle.broadcast.proofs.Script.{Left, Makes, call-follows, drain-follows, call-made, drain-made}
 use Rattle.broadcast.specs.Machines.{At}

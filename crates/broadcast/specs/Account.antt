@@ -2,14 +2,10 @@
 -- Slots have labels of any type; a packet has those of its slots, a unit those of its packets.
 use Rattle.std.specs.Prelude.{ℕ, cond, List, [], ◌∷◌, ◌++◌, map, length, drop}
 use Rattle.watch.specs.Given.{lookup_of}
-use Rattle.mmtp.specs.declared.flow.Flow.{Flow}
-use Rattle.mmtp.specs.declared.flow.Flow.TheVariants.{Silent as OtherFlow, Noted as NotedFlow, Mmtp}
+use Rattle.mmtp.specs.Flow.{Flow, Silent as OtherFlow, Noted as NotedFlow, Mmtp, flow_of}
 use Rattle.mmtp.specs.declared.packet.Packet.{Packet}
-use Rattle.mmtp.specs.declared.packet.Reading.{Reading}
-use Rattle.mmtp.specs.declared.packet.Reading.TheVariants.{Silent, Noted, Good}
+use Rattle.mmtp.specs.Packet.{Reading, Silent, Noted, Good, reading_of}
 use Rattle.mmtp.specs.Notes.{number_of}
-use Rattle.mmtp.specs.Flow.{flow_of}
-use Rattle.mmtp.specs.Packet.{reading_of}
 use Rattle.mmtp.specs.Unit.{Piece, no_fields}
 use Rattle.mmtp.specs.Payload.{pieces_of}
 use Rattle.reassembly.specs.declared.config.Config.{Config}

@@ -1,7 +1,7 @@
 -- A small broadcast that meets all that demand 3 assumes, and what is left of it with one slot or one frame lost: three frames,
 -- two own live slots each. (Two notes in one slot: `torn` of Example.)
 use Rattle.std.specs.Prelude.{ℕ, zero, suc, ◌/◌, ◌%◌, ◌≡◌, true, false, ◌&&◌, List, [], ◌∷◌, ◌++◌, eqb, length, take, drop, replicate}
-use Rattle.tmcc.specs.declared.layout.Layout.{Layout}
+use Rattle.tmcc.specs.Layout.{Layout}
 use Rattle.tmcc.specs.Block.{decode_of}
 use Rattle.reassembly.specs.declared.config.Config.{Config}
 use Rattle.reassembly.specs.Run.{Content}

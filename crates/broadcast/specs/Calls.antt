@@ -1,7 +1,7 @@
 -- Lists of calls, and the reading of a list of frames that they make up.
 use Rattle.std.specs.Prelude.{ℕ, ◌≡◌, cond, List, [], ◌∷◌, ◌++◌, length, eqb}
-use Rattle.queue.specs.declared.event.Event.{Event}
-use Rattle.queue.specs.declared.event.Event.TheVariants.{Nothing, Note, Unit, Refused}
+use Rattle.queue.specs.Event.{Event}
+use Rattle.queue.specs.Event.{Nothing, Note, Unit, Refused}
 use Rattle.queue.specs.declared.event.Given.{Given}
 use Rattle.state.specs.State.{State}
 use Rattle.frames.specs.Frame.{frame_of, lost_frame_of}

@@ -9,7 +9,7 @@ use Rattle.reassembly.specs.declared.channel.Phase.{Phase}
 use Rattle.reassembly.specs.declared.channel.Phase.TheVariants.{Unheard, Waiting, Idle, Open}
 use Rattle.reassembly.specs.Channel.{unheard}
 use Rattle.reassembly.specs.Run.{Content, Event as Account-event, note as account-note, unit as account-unit, Lane}
-use Rattle.queue.specs.declared.event.Event.TheVariants.{Nothing, Note, Unit}
+use Rattle.queue.specs.Event.{Nothing, Note, Unit}
 use Rattle.queue.specs.declared.event.Given.{Given}
 use Rattle.intake.specs.declared.held.Held.{Held}
 use Rattle.words.specs.Config.{kept_config}

@@ -1,6 +1,6 @@
 -- Lists of frames: how they are read, whole or damaged, and their own live slots.
 use Rattle.std.specs.Prelude.{ℕ, suc, Bool, true, false, cond, ◌||◌, List, [], ◌∷◌, ◌++◌, ◌≡◌, length, get_or}
-use Rattle.tmcc.specs.declared.layout.Layout.{Layout}
+use Rattle.tmcc.specs.Layout.{Layout}
 use Rattle.tmcc.specs.Block.{decode_of}
 use Rattle.tlv.specs.Run.{Slot, Arrival, lost as lost-slot-arrives, given}
 use Rattle.broadcast.specs.Calls.{Call, frame, lost-frame, slot, lost-slot, Todo, call, drain}

@@ -1,6 +1,6 @@
 -- Machines as they occur in readings, between the calls for one slot and the next.
 use Rattle.std.specs.Prelude.{ℕ, ◌≡◌, List}
-use Rattle.tmcc.specs.declared.layout.Layout.{Layout}
+use Rattle.tmcc.specs.Layout.{Layout}
 use Rattle.tlv.specs.Run.{State as Slot-state}
 use Rattle.reassembly.specs.declared.config.Config.{Config}
 use Rattle.reassembly.specs.Run.{Lane}

@@ -5,8 +5,8 @@ use Rattle.mmtp.specs.Unit.{aggregate}
 use Rattle.reassembly.specs.declared.config.Config.{Config}
 use Rattle.reassembly.specs.Channel.{unheard}
 use Rattle.reassembly.specs.Run.{Lane}
-use Rattle.queue.specs.declared.event.Event.{Event}
-use Rattle.queue.specs.declared.event.Event.TheVariants.{Nothing, Note, Unit, Refused}
+use Rattle.queue.specs.Event.{Event}
+use Rattle.queue.specs.Event.{Nothing, Note, Unit, Refused}
 use Rattle.queue.specs.Waiting.{Give, Nothing as NoUnit, One, Many, Queue}
 use Rattle.words.specs.Config.{kept_config}
 use Rattle.state.specs.State.{State}

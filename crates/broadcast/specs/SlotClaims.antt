@@ -6,10 +6,10 @@ use Rattle.tmcc.specs.declared.layout.Pointers.{Pointers}
 use Rattle.tlv.specs.Run.{Slot, State as Slot-state, searching as slot-searching, held, Stepped, lost, given, step}
 use Rattle.reassembly.specs.declared.config.Config.{Config}
 use Rattle.reassembly.specs.Run.{Lane}
-use Rattle.delivery.specs.declared.cursor.Found.{Found}
-use Rattle.queue.specs.declared.event.Event.{Event as AnEvent}
-use Rattle.queue.specs.declared.event.Event.TheVariants.{Nothing, Note, Unit as Given-unit, Refused}
-use Rattle.delivery.specs.declared.cursor.Found.TheVariants.{Event, Packet, Tail, Done}
+use Rattle.delivery.specs.Found.{Found}
+use Rattle.queue.specs.Event.{Event as AnEvent}
+use Rattle.queue.specs.Event.{Nothing, Note, Unit as Given-unit, Refused}
+use Rattle.delivery.specs.Found.{Event, Packet, Tail, Done}
 use Rattle.intake.specs.declared.held.Cursor.{Cursor}
 use Rattle.state.specs.State.{Frame, State}
 use Rattle.intake.specs.declared.held.Held.{Held}

@@ -8,7 +8,7 @@ use lib.Dec.{eqb, leb}
 use lib.ListN.{length, get_or, drop, length-append, get_or-append}
 use lib.Seq.{take_at, drop_at, take_all}
 use borrow.Author.Tests.{eq-eqb, eqb-true, lt-leb}
-use Rattle.tmcc.specs.declared.layout.Layout.{Layout}
+use Rattle.tmcc.specs.Layout.{Layout}
 use Rattle.tmcc.specs.Layout.{blank_layout}
 use Rattle.tmcc.specs.Block.{decode_of}
 use Rattle.tmcc.proofs.Laws.{accepted as tmcc-accepted}

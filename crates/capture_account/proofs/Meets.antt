@@ -6,7 +6,7 @@ use native.Mathlib.Omega.{arith}
 use lib.ListN.{length}
 use Rattle.wire.specs.Field.{be}
 use Rattle.wire.specs.Tab.{tab}
-use Rattle.tmcc.specs.declared.layout.Layout.{Layout}
+use Rattle.tmcc.specs.Layout.{Layout}
 use Rattle.tmcc.specs.Layout.{blank_layout}
 use Rattle.tmcc.proofs.Laws.{accepted as tmcc-accepted}
 use Rattle.tlv.specs.Run.{Arrival, searching}

@@ -7,8 +7,8 @@ use native.Mathlib.Omega.{arith}
 use lib.ListN.{length, get_or, take, drop}
 use lib.Dec.{eqb}
 use Rattle.wire.proofs.Choice.{either}
-use Rattle.queue.specs.declared.event.Event.{Event}
-use Rattle.queue.specs.declared.event.Event.TheVariants.{Nothing, Note, Unit, Refused}
+use Rattle.queue.specs.Event.{Event}
+use Rattle.queue.specs.Event.{Nothing, Note, Unit, Refused}
 use Rattle.state.specs.State.{Called, State}
 use Rattle.receiver.specs.Next.{next_of}
 use Rattle.capture.specs.declared.command.Letter.{Letter}

@@ -1,7 +1,7 @@
 -- The calls that a capture's commands make behind C, and which of them are carried out: by the control blocks and the order of the
 -- commands alone, without a receiver's state and without its memories.
 use Rattle.std.specs.Prelude.{ℕ, zero, suc, ◌-◌, cond, List, [], ◌∷◌, ◌++◌, length, get_or, take, drop, eqb, ltb, leb}
-use Rattle.tmcc.specs.declared.layout.Layout.{Layout}
+use Rattle.tmcc.specs.Layout.{Layout}
 use Rattle.tmcc.specs.Block.{decode_of}
 use Rattle.tlv.specs.Run.{Arrival, lost, given}
 use Rattle.frames.specs.Slot.{wrong_length}

@@ -1,7 +1,7 @@
 -- The meaning of a capture: its notes and units, each with its frame and slot, its refusal, and its totals. Its text is made of that.
 use Rattle.std.specs.Prelude.{ℕ, zero, suc, cond, List, [], ◌∷◌, ◌++◌, length, get_or, take, drop, eqb}
-use Rattle.queue.specs.declared.event.Event.{Event}
-use Rattle.queue.specs.declared.event.Event.TheVariants.{Nothing, Note, Unit, Refused}
+use Rattle.queue.specs.Event.{Event}
+use Rattle.queue.specs.Event.{Nothing, Note, Unit, Refused}
 use Rattle.receiver.specs.Next.{next_of}
 use Rattle.lines.specs.Line.{unit_text, note_line, refused_line}
 use Rattle.capture.specs.Session.{Session, is_ended, busy, with_state, with_tally, fresh_session}

@@ -1,6 +1,6 @@
 -- The account of a capture's calls with the frame and the slot of each note and unit, as the lines count them.
 use Rattle.std.specs.Prelude.{ℕ, ◌+◌, ◌%◌, ◌^◌, cond, List, [], ◌∷◌, ◌++◌, map, eqb, length}
-use Rattle.tmcc.specs.declared.layout.Layout.{Layout}
+use Rattle.tmcc.specs.Layout.{Layout}
 use Rattle.tlv.specs.Run.{State as Slot-state, run, state_after}
 use Rattle.reassembly.specs.declared.config.Config.{Config}
 use Rattle.reassembly.specs.Run.{Lane}

@@ -1,4 +1,5 @@
 -- That the run meets the conditions, computed.
+use Rattle.std.specs.Prelude.{Some}
 use Prim.Native.Nat.{ℕ, zero, suc, ◌<◌, ◌≤◌}
 use mathlib.Core.Path.{◌≡◌, refl}
 use mathlib.Core.Bool.{Bool, true, false, ◌&&◌}
@@ -11,7 +12,6 @@ use Rattle.wire.specs.Field.{be, bytes_of}
 use Rattle.tmcc.specs.Count.{all_below}
 use Rattle.tmcc.specs.Mode.{data_bytes}
 use Rattle.tlv.specs.Packet.{good_first, total, complete, marked}
-use Rattle.watch.specs.declared.given.Found.TheVariants.{At}
 use Rattle.watch.specs.Given.{lookup_of, first_from}
 use Rattle.reassembly.specs.declared.unit.Unit.{Unit}
 use Rattle.state.specs.Start.{before, twice_below, twice, start_refusal, start_from}
@@ -105,7 +105,7 @@ packable u r f m =
 
 sendable : (x : Parcel) (k : ℕ) → ltb 0 x.m && leb x.m 1400 ≡ true → leb (piece_count x) 300 ≡ true → in_range x.unit ≡ true
     → own_fields x.unit.kind x.unit.fields ≡ x.unit.fields → (x.unit.kind ≡ 4 → x.unit.mpu ≡ 0)
-    → lookup_of config.watch x.unit.packet_id ≡ At k → (1 < piece_count x → length x.bytes ≤ 300) → Sendable config x
+    → lookup_of config.watch x.unit.packet_id ≡ Some k → (1 < piece_count x → length x.bytes ≤ 300) → Sendable config x
 sendable x k m n r f z w l =
     let s = and_both _ _ m in
     record {

@@ -12,7 +12,7 @@ use Rattle.packer.specs.Packer.{pack_of, pack_refusal, joined, run as packed-run
 use Rattle.state.proofs.StartLaws.{starts}
 use Rattle.cutter.proofs.Runs.{cut_each, cut-run}
 use Rattle.packer.proofs.PacketReads.{packets-read}
-use Rattle.broadcast.specs.Drains.{unit, strip}
+use Rattle.broadcast.specs.Drains.{strip}
 use Rattle.broadcast.specs.Account.{events, account}
 use Rattle.broadcast.specs.Frames.{none, own_slots}
 use Rattle.broadcast.proofs.Inputs.{counted}

@@ -11,9 +11,9 @@ use lib.ListN.{length, drop, replicate, length-drop}
 use lib.Seq.{length-take-le}
 use Rattle.wire.specs.Field.{be, bytes_of}
 use Rattle.wire.specs.Lists.{sift}
-use Rattle.tmcc.specs.declared.layout.Layout.{Layout}
+use Rattle.tmcc.specs.Layout.{Layout}
 use Rattle.tmcc.specs.declared.layout.Pointers.{Pointers}
-use Rattle.tmcc.specs.declared.block.Decoded.{Decoded}
+use Rattle.tmcc.specs.Decoded.{Decoded}
 use Rattle.wire.specs.Tab.{tab}
 use Rattle.tmcc.specs.Count.{all_below, count_below, last_below}
 use Rattle.tmcc.specs.Mode.{data_bytes, within, used, unused, mode_good, slots_of as modeSlots, modes_good, mode_from, mode_of, slot_length}

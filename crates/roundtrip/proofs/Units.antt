@@ -1,4 +1,5 @@
 -- Why the units come back: each packet_id is ready for the unit that comes next, and is left ready for the one after.
+use Rattle.std.specs.Prelude.{Some}
 use Prim.Native.Nat.{ℕ, ◌-◌}
 use mathlib.Core.Path.{◌≡◌, refl, sym, ◌∙◌, ap}
 use mathlib.Core.Bool.{Bool, true, false}
@@ -7,13 +8,12 @@ use native.Mathlib.Omega.{arith}
 use lib.ListN.{length, get_or}
 use lib.Dec.{eqb}
 use borrow.Author.Tests.{eqb-true, eqb-false}
-use Rattle.watch.specs.declared.given.Found.TheVariants.{At}
 use Rattle.watch.specs.Given.{lookup_of}
 use Rattle.watch.proofs.GivenLaws.{lookup_at}
 use Rattle.reassembly.specs.declared.config.Config.{Config}
 use Rattle.reassembly.specs.declared.channel.Channel.{Channel}
 use Rattle.reassembly.specs.declared.channel.Phase.TheVariants.{Unheard, Idle}
-use Rattle.reassembly.specs.Run.{Input, unit, Lane, run, lanes_after}
+use Rattle.reassembly.specs.Run.{Input, Lane, run, lanes_after}
 use Rattle.reassembly.proofs.Runs.{run-append}
 use Rattle.packer.specs.Pieces.{with_psn}
 use Rattle.packer.specs.Rejoins.{inputs, Ready, unheard, idle}
@@ -59,7 +59,7 @@ module _ (cfg : Config) where
       ((ch.phase ≡ Idle) × (ch.last ≡ (with_psn v.unit (piece_count v - 1)).psn)) (Stands vs id ch)
 
   abbrev pub AllStand : {A : Type 0} → List Parcel → (ℕ → Lane A) → Type 0
-  AllStand sent f = (id k : ℕ) → lookup_of cfg.watch id ≡ At k → Stands sent id (f k).channel
+  AllStand sent f = (id k : ℕ) → lookup_of cfg.watch id ≡ Some k → Stands sent id (f k).channel
 
   -- it is ready for a unit that follows them
   ready : (sent : List Parcel) (u : Parcel) (ch : Channel) → PsnFollows sent u → Stands sent u.unit.packet_id ch
@@ -76,14 +76,14 @@ module _ (cfg : Config) where
 
   -- and so are all packet_ids after it
   module _ {A : Type 0} (sent : List Parcel) (u : Parcel) (f g : ℕ → Lane A) (place : ℕ)
-      (at : lookup_of cfg.watch u.unit.packet_id ≡ At place) (phase : (g place).channel.phase ≡ Idle)
+      (at : lookup_of cfg.watch u.unit.packet_id ≡ Some place) (phase : (g place).channel.phase ≡ Idle)
       (last : (g place).channel.last ≡ (with_psn u.unit (piece_count u - 1)).psn)
       (others : (k : ℕ) → (k ≡ place → ⊥) → g k ≡ f k) where
     stand_on : AllStand sent f → AllStand (u ∷ sent) g
     stand_on s id k e = go (eqb u.unit.packet_id id) refl
       where
         same : u.unit.packet_id ≡ id → k ≡ place
-        same q = let r : At k ≡ At place = sym e ∙ ap (lookup_of cfg.watch) (sym q) ∙ at in cc
+        same q = let r : Some k ≡ Some place = sym e ∙ ap (lookup_of cfg.watch) (sym q) ∙ at in cc
 
         apart : (u.unit.packet_id ≡ id → ⊥) → k ≡ place → ⊥
         apart n q =

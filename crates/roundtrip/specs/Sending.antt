@@ -1,13 +1,12 @@
 -- What is sent: units, packed one after another, with null packets in between; and document 01's conditions on them.
-use Rattle.std.specs.Prelude.{ℕ, ◌≤◌, ◌<◌, ◌≡◌, Bool, true, false, List, [], ◌∷◌, ◌++◌, length, get_or, eqb}
-use Rattle.watch.specs.declared.given.Found.TheVariants.{At}
+use Rattle.std.specs.Prelude.{ℕ, ◌≤◌, ◌<◌, ◌≡◌, Bool, true, false, List, [], ◌∷◌, ◌++◌, length, get_or, eqb, Some}
 use Rattle.watch.specs.Given.{lookup_of}
 use Rattle.tlv.specs.Packet.{max_packet}
 use Rattle.reassembly.specs.declared.config.Config.{Config}
 use Rattle.reassembly.specs.declared.unit.Unit.{Unit}
 use Rattle.reassembly.specs.Run.{Content}
 use Rattle.packer.specs.Pieces.{pieces, max_pieces, with_psn}
-use Rattle.packer.specs.declared.pack.Packed.TheVariants.{Written}
+use Rattle.packer.specs.Packed.{Written}
 use Rattle.packer.specs.Packer.{packets, joined, packed, pack_of}
 use Rattle.packer.specs.Reads.{Packable, WholePacket}
 
@@ -58,7 +57,7 @@ pub record Sendable (cfg : Config) (x : Parcel) : Type 0 where
   pub few : piece_count x ≤ max_pieces
   pub packable : Packable x.unit
   pub place : ℕ
-  pub watched : lookup_of cfg.watch x.unit.packet_id ≡ At place
+  pub watched : lookup_of cfg.watch x.unit.packet_id ≡ Some place
   pub joins : 1 < piece_count x → length x.bytes ≤ cfg.rules.limit
 
 abbrev pub AllSendable : Config → List Parcel → Type 0
