@@ -41,6 +41,7 @@ same() {
 
 under_60_lines() { [ "$(wc -l < "$1")" -lt 60 ]; }
 prints_the_example() { "$1" < "$example" | cmp - crates/tlv_capture/stdout; }
+needs_only() { nm -u "$IXOHUEMIL_LIB" > "$made/needs" && ! grep ' U ' "$made/needs" | grep -vE " U ($1)\$"; }
 guarded() { cc -std=gnu99 -g -O1 -Wl,-z,now "${strict[@]}" "tests/interface/$1.c" "$IXOHUEMIL_LIB" -o "$made/$1"; }
 in_valgrind() { valgrind -q --error-exitcode=9 "$@"; }
 example_in_valgrind() { in_valgrind "$made/capture_c" < "$1" > "$made/ours" && "$OTHER_CAPTURE" < "$1" | cmp - "$made/ours"; }
@@ -55,6 +56,9 @@ check "the header in C links" cc -std=c99 "${strict[@]}" "$made/header.c" "$IXOH
 check "the header in C calls" "$made/header_c"
 check "the header in C++ links" c++ -std=c++11 "${strict[@]}" "$made/header.cc" "$IXOHUEMIL_LIB" -o "$made/header_cc"
 check "the header in C++ calls" "$made/header_cc"
+
+# What the header says that the archive needs from outside.
+check "the archive needs memcpy and memset alone" needs_only 'memcpy|memset'
 
 # The examples, beside the program.
 check "the C example compiles" cc -std=c99 -O2 "${strict[@]}" examples/capture.c "$IXOHUEMIL_LIB" -o "$made/capture_c"

@@ -49,6 +49,6 @@ pub fn cut_slot(run: &[u8], l: usize, s: usize, output: &mut [u8]) -> Result<Poi
     test(run, l, s, output.len())?;
     let from = s * l;
     let pointers = crate::pointers::find(run, from, l);
-    output.copy_from_slice(&run[from..from + l]);
+    wire::memory::copy_at(output, 0, &run[from..from + l]);
     Ok(pointers)
 }

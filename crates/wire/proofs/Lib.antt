@@ -1,4 +1,5 @@
 -- The laws that the proofs share.
+pub mod Copy
 pub mod Write
 pub mod BitsLaws
 pub mod Choice

@@ -1,4 +1,5 @@
-// Parts of a slice, and copying between slices and within one memory.
+// Parts of a slice, and copying between slices and within one memory. Copies are loops: the library's would ask programs in C for
+// `memmove`, and include/ixohuemil.h promises that the archive needs only `memcpy` and `memset`.
 ghost use Rattle.std.specs.Prelude.{◌≡◌, ◌+◌, ◌-◌, ◌≤◌, length, drop};
 ghost use Rattle.wire.specs.Memory.{pasted, part_of};
 
@@ -17,7 +18,9 @@ pub fn copy_at(dst: &mut [u8], at: usize, src: &[u8])
     requires { at + length src.now ≤ length dst.old }
     ensures { dst.new ≡ pasted dst.old at src.now (length src.now) }
 {
-    dst[at..at + src.len()].copy_from_slice(src);
+    for i in 0..src.len() {
+        dst[at + i] = src[i];
+    }
 }
 
 // The `n` bytes at `from` come to stand at `to`, which is not above.
@@ -25,7 +28,9 @@ pub fn move_down(mem: &mut [u8], to: usize, from: usize, n: usize)
     requires { (to ≤ from) × (from + n ≤ length mem.old) }
     ensures { mem.new ≡ pasted mem.old to (drop from mem.old) n }
 {
-    mem.copy_within(from..from + n, to);
+    for i in 0..n {
+        mem[to + i] = mem[from + i];
+    }
 }
 
 // How far it is from `start` to `end`; 0 where that lies before.

@@ -1,7 +1,9 @@
 -- Why cut_slot meets its contract: a refused call leaves the output; else the slot lies in the run and fills the output.
-use Rattle.std.proofs.Common.{◌≡◌, ℕ, ◌+◌, ◌-◌, ◌*◌, ◌≤◌, List, [], length, drop, sym, arith, length-drop}
+use Rattle.std.proofs.Common.{◌≡◌, ℕ, ◌+◌, ◌-◌, ◌*◌, ◌≤◌, List, [], length, take, drop, sym, ◌∙◌, arith, length-drop, zero-add, append-nil}
 use Rattle.std.proofs.lemmas.Result.{err_from_is_err_and}
-use lib.Seq.{length-take-le}
+use lib.ListN.{drop_of_length-le}
+use lib.Seq.{take-length, length-take-le}
+use Rattle.wire.specs.Memory.{pasted}
 use Rattle.tlv.specs.Packet.{cut}
 use Rattle.cutter.specs.Pointers.{pointers_of}
 use Rattle.cutter.specs.Slot.{cut_refusal, slot_at}
@@ -47,24 +49,38 @@ overflow_add-from c =
     let r = room _ _ _ _ c.in_ok-test.ensures in
     omega arith
 
-pub slice_bounds-copy_from_slice-end : goal.slice_bounds-copy_from_slice-end
-slice_bounds-copy_from_slice-end c =
+pub slice_bounds-copy_at-end : goal.slice_bounds-copy_at-end
+slice_bounds-copy_at-end c =
     let r = room _ _ _ _ c.in_ok-test.ensures in
     omega arith
 
--- the part of the run that is copied
-same : (from l : ℕ) → from + l - from ≡ l
-same from l = omega arith
+-- the part of the run that is copied, and the output that it fills
+module _ (run : List ℕ) (from l : ℕ) (h : from + l ≤ length run) where
+  same : from + l - from ≡ l
+  same = omega arith
 
-pub copy_from_slice-requires : goal.copy_from_slice-requires
-copy_from_slice-requires c =
+  part_length : length (take (from + l - from) (drop from run)) ≡ l
+  part_length = rw (same, length-take-le l (drop from run) (rw length-drop (omega arith)))
+
+filled : (d s : List ℕ) → length d ≡ length s → pasted d 0 s (length s) ≡ s
+unfolding pasted
+filled d s e = rw (zero-add, take-length s, drop_of_length-le d {i = length s} (omega arith), append-nil)
+
+copied : (run output : List ℕ) (from l : ℕ) → from + l ≤ length run → length output ≡ l
+    → pasted output 0 (take (from + l - from) (drop from run)) (length (take (from + l - from) (drop from run)))
+    ≡ take l (drop from run)
+copied run output from l h e =
+    filled output (take (from + l - from) (drop from run)) (e ∙ sym (part_length run from l h)) ∙ rw (same run from l h)
+
+pub copy_at-requires : goal.copy_at-requires
+copy_at-requires c =
     let a = c.args in
     let r = room _ _ _ _ c.in_ok-test.ensures in
-    rw (same (a.s * a.l) a.l, length-take-le a.l (drop (a.s * a.l) a.run.now) (rw length-drop (omega arith))) r.fills
+    omega (arith, part_length a.run.now (a.s * a.l) a.l r.inside)
 
 pub returns : goal.returns
 unfolding slot_at pointers_of
 returns c =
-    let a = c.args in
-    let b = rw same at c.copy_from_slice.ensures.after in
+    let r = room _ _ _ _ c.in_ok-test.ensures in
+    let b = c.copy_at.ensures ∙ copied _ _ _ _ r.inside r.fills in
     rw (b, c.find-pointers.ensures) (sym (slot-cut _ _ _ _ (sym c.in_ok-test.ensures)))

@@ -1,12 +1,19 @@
--- Why `move_down` meets its contract: the library's copy is the definition's.
-use mathlib.Core.Path.{◌≡◌}
-use Prim.Native.Nat.{◌+◌, ◌-◌}
-use native.Mathlib.Omega.{arith}
 use Rattle.wire.specs.Memory.{pasted}
+use mathlib.Core.Path.{◌≡◌, refl}
+use native.Mathlib.Omega.{arith}
+use lib.ListN.{drop, length-set}
+use lib.Seq.{paste-zero}
+use Rattle.wire.proofs.Copy.{turn_down}
 use Rattle.wire.proofs.memory.move_down.Goals as goal
+
+pub loop-i-init : goal.loop-i-init
+loop-i-init c = (refl, paste-zero c.args.mem.now c.args.to (drop c.args.from c.args.mem.now))
+
+pub loop-i-preserved : goal.loop-i-preserved
+loop-i-preserved c = (simp length-set (omega arith), turn_down _ _ _ _ _ (omega arith) (omega arith) c.loop-i.invariant.1)
 
 pub returns : goal.returns
 unfolding pasted
 returns c =
-    let e : c.args.from + c.args.n - c.args.from ≡ c.args.n = omega arith in
-    rw e at c.copy_within.ensures.after
+    let e : c.loop-i.i ≡ c.args.n = omega arith in
+    rw (← e) c.loop-i.invariant.1
