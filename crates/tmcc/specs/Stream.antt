@@ -2,12 +2,17 @@
 use Rattle.std.specs.Prelude.{ℕ, ◌+◌, ◌*◌, ◌/◌, ◌%◌, Bool, cond, ◌&&◌, List, Option, Some, None, get_or, eqb, ltb}
 use Rattle.wire.specs.Bits.{bits_at}
 use Rattle.wire.specs.Field.{be}
+use Rattle.tmcc.specs.declared.stream.Streams.{Streams}
 use Rattle.tmcc.specs.Count.{count_below, last_below}
 use Rattle.tmcc.specs.Mode.{slot_length}
 
 -- bytes 25 to 40: type of relative streams 0 to 15 (2 = TLV); bytes 693 to 724: their stream ids
 unfoldable pub chosen : List ℕ → ℕ → ℕ → Bool
 chosen b id r = eqb (get_or b (25 + r) 0) 2 && eqb (be 2 b (693 + 2 * r)) id
+
+-- how many relative streams are chosen, and the last of them
+abbrev pub streams_of : List ℕ → ℕ → Streams
+streams_of b id = record { count = count_below (chosen b id) 16; last = last_below (chosen b id) 16 }
 
 -- the chosen relative stream, if there is just one
 unfoldable pub one_stream : List ℕ → ℕ → Option ℕ

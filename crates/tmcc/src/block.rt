@@ -1,5 +1,5 @@
 // The control block as a whole: its layout, or the first refusal that it meets.
-ghost use Rattle.std.specs.Prelude.{◌≡◌};
+ghost use Rattle.std.specs.Prelude.{◌≡◌, length};
 ghost use Rattle.tmcc.specs.Block.{decode_of};
 ghost use Rattle.tmcc.specs.Decoded.{as_decoded};
 
@@ -10,6 +10,14 @@ use refusal::Refusal;
 // The bytes of a control block.
 pub const BLOCK_BYTES: usize = 1178;
 
+// A block that is as long as one, as an array.
+pub(crate) fn whole(block: &[u8]) -> &[u8; BLOCK_BYTES]
+    requires { length block.now ≡ 1178 }
+    ensures { result.now ≡ block.now }
+{
+    <&[u8; BLOCK_BYTES]>::try_from(block).unwrap()
+}
+
 // The layout for the stream with this id.
 pub fn decode(block: &[u8], id: u16) -> Result<Layout, Refusal>
     ensures { as_decoded result ≡ decode_of block.now id }
@@ -17,13 +25,13 @@ pub fn decode(block: &[u8], id: u16) -> Result<Layout, Refusal>
     let Ok(block) = <&[u8; BLOCK_BYTES]>::try_from(block) else {
         return Err(Refusal::BlockLength);
     };
-    if !mode::are_good(block) {
+    if !mode::keep_rules(block) {
         return Err(Refusal::Modes);
     }
-    let Some(own) = stream::find(block, id) else {
+    let Some(own) = stream::only(block, id) else {
         return Err(Refusal::Stream);
     };
-    let layout = layout::of_block(block, own);
+    let layout = layout::layout_in(block, own);
     if !layout::has_own(&layout) {
         return Err(Refusal::NoSlot);
     }

@@ -1,9 +1,9 @@
 // The frame's layout: pointers, data length and ownership of each of its 120 slots.
-ghost use Rattle.std.specs.Prelude.{◌≡◌, ◌<◌};
+ghost use Rattle.std.specs.Prelude.{◌≡◌, ◌<◌, length};
 ghost use Rattle.std.specs.List.{list_any};
-ghost use Rattle.tmcc.specs.Layout.{pointers_at, slot_at, layout_of, as_layout};
+ghost use Rattle.tmcc.specs.Layout.{pointers_at, slot_at, layout_of, blank_layout, as_layout};
 
-use crate::block::BLOCK_BYTES;
+use crate::block::{BLOCK_BYTES, whole};
 use crate::{mode, stream};
 use std::array;
 use wire::field::Field;
@@ -38,7 +38,7 @@ fn slot_at(block: &[u8; BLOCK_BYTES], own: u8, s: usize) -> Slot
     requires { s < 120 }
     ensures { result ≡ slot_at block.now own s }
 {
-    let length = mode::slot_length(block, s);
+    let length = mode::length_of(block, s);
     Slot {
         pointers: pointers_at(block, s),
         length,
@@ -46,8 +46,31 @@ fn slot_at(block: &[u8; BLOCK_BYTES], own: u8, s: usize) -> Slot
     }
 }
 
-// The layout that a block gives.
-pub fn of_block(block: &[u8; BLOCK_BYTES], own: u8) -> Layout
+// No frame: all slots dummy.
+pub fn blank() -> Layout
+    ensures { as_layout result ≡ blank_layout }
+{
+    let dummy = Slot {
+        pointers: Pointers(0, 0),
+        length: 0,
+        own: false,
+    };
+    Layout {
+        slots: [dummy; 120],
+    }
+}
+
+// The layout that a block gives, with the slots of relative stream `own` as the chosen stream's.
+pub fn of_block(block: &[u8], own: u8) -> Layout
+    requires { length block.now ≡ 1178 }
+    ensures { as_layout result ≡ layout_of block.now own }
+{
+    layout_in(whole(block), own)
+}
+
+// The same of a block as an array. Its loop takes all registers: inlined in `decode`, it would count in memory, and take half as long again.
+#[inline(never)]
+pub(crate) fn layout_in(block: &[u8; BLOCK_BYTES], own: u8) -> Layout
     ensures { as_layout result ≡ layout_of block.now own }
 {
     Layout {

@@ -1,8 +1,8 @@
 // The transmission modes: their rules, and what they make of each slot.
-ghost use Rattle.std.specs.Prelude.{◌≡◌, ◌<◌, ◌≤◌};
+ghost use Rattle.std.specs.Prelude.{◌≡◌, ◌<◌, ◌≤◌, length};
 ghost use Rattle.tmcc.specs.Mode.{mode_byte, slot_count, back_off, data_bytes, used, mode_good, modes_good, mode_of, slot_length};
 
-use crate::block::BLOCK_BYTES;
+use crate::block::{BLOCK_BYTES, whole};
 
 // Data bytes of a slot by code rate, 1 to 11, each a multiple of 187. Entry 0 is no rate.
 const DATA_BYTES: [u16; 12] = [
@@ -71,7 +71,15 @@ fn is_good(block: &[u8; BLOCK_BYTES], k: usize) -> bool
 }
 
 // Whether the eight modes keep the rules and take 120 slots in all.
-pub fn are_good(block: &[u8; BLOCK_BYTES]) -> bool
+pub fn are_good(block: &[u8]) -> bool
+    requires { length block.now ≡ 1178 }
+    ensures { result ≡ modes_good block.now }
+{
+    keep_rules(whole(block))
+}
+
+// The same of a block as an array.
+pub(crate) fn keep_rules(block: &[u8; BLOCK_BYTES]) -> bool
     ensures { result ≡ modes_good block.now }
 {
     let mut slots = 0;
@@ -100,7 +108,15 @@ fn of_slot(block: &[u8; BLOCK_BYTES], s: usize) -> usize
 }
 
 // The data length of slot `s`: 0 for a dummy.
-pub fn slot_length(block: &[u8; BLOCK_BYTES], s: usize) -> u16
+pub fn slot_length(block: &[u8], s: usize) -> u16
+    requires { length block.now ≡ 1178 }
+    ensures { result ≡ slot_length block.now s }
+{
+    length_of(whole(block), s)
+}
+
+// The same of a block as an array.
+pub(crate) fn length_of(block: &[u8; BLOCK_BYTES], s: usize) -> u16
     ensures { result ≡ slot_length block.now s }
 {
     let mode = block[1 + 3 * of_slot(block, s)];

@@ -1,9 +1,16 @@
 // The relative streams: which one is chosen, and which one each slot has.
-ghost use Rattle.std.specs.Prelude.{◌≡◌, ◌<◌};
-ghost use Rattle.tmcc.specs.Stream.{chosen, one_stream, relative_stream};
+ghost use Rattle.std.specs.Prelude.{◌≡◌, ◌<◌, length};
+ghost use Rattle.tmcc.specs.Stream.{chosen, streams_of, one_stream, relative_stream};
 
-use crate::block::BLOCK_BYTES;
+use crate::block::{BLOCK_BYTES, whole};
 use wire::field::Field;
+
+// How many relative streams are chosen, and the last of them.
+#[derive(Clone, Copy)]
+pub struct Streams {
+    pub count: usize,
+    pub last: u8,
+}
 
 // Whether relative stream `r` is of type TLV and has the stream id.
 fn is_chosen(block: &[u8; BLOCK_BYTES], id: u16, r: u8) -> bool
@@ -14,20 +21,41 @@ fn is_chosen(block: &[u8; BLOCK_BYTES], id: u16, r: u8) -> bool
     block[25 + r] == 2 && u16::read(block, 693 + 2 * r) == id
 }
 
-// The relative stream of type TLV with the stream id, if there is just one.
-pub(crate) fn find(block: &[u8; BLOCK_BYTES], id: u16) -> Option<u8>
-    ensures { result ≡ one_stream block.now id }
+// The relative streams of type TLV with the stream id.
+pub fn find(block: &[u8], id: u16) -> Streams
+    requires { length block.now ≡ 1178 }
+    ensures { result ≡ streams_of block.now id }
 {
-    let mut found = None;
+    streams_in(whole(block), id)
+}
+
+// The same of a block as an array.
+fn streams_in(block: &[u8; BLOCK_BYTES], id: u16) -> Streams
+    ensures { result ≡ streams_of block.now id }
+{
+    let mut streams = Streams { count: 0, last: 0 };
     for r in 0..16 {
         if is_chosen(block, id, r) {
-            if found.is_some() {
-                return None;
-            }
-            found = Some(r);
+            streams = Streams {
+                count: streams.count + 1,
+                last: r,
+            };
         }
     }
-    found
+    streams
+}
+
+// The relative stream of type TLV with the stream id, if there is just one.
+#[tactic(auto, unfolding(crate::specs::Stream::one_stream))]
+pub(crate) fn only(block: &[u8; BLOCK_BYTES], id: u16) -> Option<u8>
+    ensures { result ≡ one_stream block.now id }
+{
+    let streams = streams_in(block, id);
+    if streams.count == 1 {
+        Some(streams.last)
+    } else {
+        None
+    }
 }
 
 // The relative stream of slot `s`, counted from 0: the high half of a byte comes first.

@@ -6,9 +6,9 @@ use Rattle.tmcc.proofs.layout.slot_at.Goals as goal
 pub returns-then-length-gt0 : goal.returns-then-length-gt0
 unfolding own_slot
 returns-then-length-gt0 c =
-    rw (c.pointers_at.ensures, ← c.slot_length-length.ensures, lt-ltb 0 _ c.if-length-gt0.true, c.of_slot.ensures)
+    rw (c.pointers_at.ensures, ← c.length_of-length.ensures, lt-ltb 0 _ c.if-length-gt0.true, c.of_slot.ensures)
 
 pub returns-else-length-gt0 : goal.returns-else-length-gt0
 unfolding own_slot
 returns-else-length-gt0 c =
-    rw (c.pointers_at.ensures, ← c.slot_length-length.ensures, le-ltb 0 _ c.if-length-gt0.false)
+    rw (c.pointers_at.ensures, ← c.length_of-length.ensures, le-ltb 0 _ c.if-length-gt0.false)

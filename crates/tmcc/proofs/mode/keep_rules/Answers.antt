@@ -5,7 +5,7 @@ use Rattle.tmcc.specs.Count.{all_below}
 use Rattle.tmcc.proofs.CountLaws.{all_one}
 use Rattle.tmcc.specs.Mode.{slots_of}
 use Rattle.tmcc.proofs.ModeLaws.{slots-one, modes-bad, modes-all}
-use Rattle.tmcc.proofs.mode.are_good.Goals as goal
+use Rattle.tmcc.proofs.mode.keep_rules.Goals as goal
 
 pub loop-k-init : goal.loop-k-init
 unfolding all_below slots_of

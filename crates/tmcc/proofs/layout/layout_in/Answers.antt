@@ -1,8 +1,8 @@
--- Why of_block meets its contract: from_fn gives each slot in its place.
+-- Why layout_in meets its contract: from_fn gives each slot in its place.
 use Rattle.std.proofs.Common.{rules}
 use Rattle.tmcc.specs.Layout.{slot_at}
 use Rattle.tmcc.proofs.Slots.{made, slots_layout}
-use Rattle.tmcc.proofs.layout.of_block.Goals as goal
+use Rattle.tmcc.proofs.layout.layout_in.Goals as goal
 
 pub returns : goal.returns
 returns c =

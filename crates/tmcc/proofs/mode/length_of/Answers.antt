@@ -1,10 +1,10 @@
--- Why slot_length meets its contract: the mode of the slot, its halves, and the table.
+-- Why length_of meets its contract: the mode of the slot, its halves, and the table.
 use Prim.Native.Nat.{◌+◌, ◌*◌}
 use mathlib.Core.Path.{sym}
 use native.Mathlib.Omega.{arith}
 use Rattle.wire.proofs.BitsLaws.{bits_mask}
 use Rattle.tmcc.proofs.ModeLaws.{length-live, length_dummy}
-use Rattle.tmcc.proofs.mode.slot_length.Goals as goal
+use Rattle.tmcc.proofs.mode.length_of.Goals as goal
 
 pub returns-then-s-from : goal.returns-then-s-from
 returns-then-s-from c =
