@@ -14,7 +14,7 @@ use Rattle.mmtp.proofs.Cases.{chose, chose-not}
 use Rattle.mmtp.proofs.Take.{be-take, drop-take}
 use Rattle.mmtp.specs.declared.unit.DataUnit.{DataUnit}
 use Rattle.mmtp.specs.declared.unit.Step.TheVariants.{Unit, Malformed, End}
-use Rattle.mmtp.specs.Unit.{field_bytes, no_fields, timed_fields, item_fields, fields_of, piece_of, length_bytes, unit_length, unit_fits, unit_end, place_behind, data_unit, unit_at, single_fits, single_unit, single_at, Aggregate, unit_of, after_unit, all_read, spoilt, in_front, unit_then, aggregate_by, aggregate, aggregate_fits, Fitting, piece_at, Next, Single, Inside}
+use Rattle.mmtp.specs.Unit.{field_bytes, no_fields, timed_fields, item_fields, fields_of, piece_of, length_bytes, unit_length, unit_fits, unit_end, place_behind, next_place, data_unit, unit_at, single_fits, single_unit, single_at, Aggregate, unit_of, after_unit, all_read, spoilt, in_front, unit_then, aggregate_by, aggregate, aggregate_fits, Fitting, piece_at, Next, Single, Inside}
 
 -- Laws.
 pub length-bytes_pos : (wide : Bool) → 2 ≤ length_bytes wide
@@ -84,51 +84,96 @@ unit-fits-end m at kind wide h =
 
 -- the place behind a unit, by the unit's three tests
 module _ (m : List ℕ) (at kind : ℕ) (wide : Bool) where
-  pub behind-short : length m - at < length_bytes wide → place_behind m at kind wide ≡ None
+  pub behind-short : length m - at < length_bytes wide → place_behind m at kind wide ≡ at
   unfolding place_behind unit_fits
   behind-short h = rw (length-drop, lt-leb _ _ h)
 
+  pub next-short : length m - at < length_bytes wide → next_place m at kind wide ≡ None
+  unfolding next_place unit_fits
+  next-short h = rw (length-drop, lt-leb _ _ h)
+
   pub behind-over : length_bytes wide ≤ length m - at → length m - at - length_bytes wide < unit_length wide (drop at m)
-      → place_behind m at kind wide ≡ None
+      → place_behind m at kind wide ≡ at
   unfolding place_behind unit_fits
   behind-over h k = rw (length-drop, le-leb _ _ h, lt-leb _ _ k)
 
+  pub next-over : length_bytes wide ≤ length m - at → length m - at - length_bytes wide < unit_length wide (drop at m)
+      → next_place m at kind wide ≡ None
+  unfolding next_place unit_fits
+  next-over h k = rw (length-drop, le-leb _ _ h, lt-leb _ _ k)
+
   pub behind-bare : length_bytes wide ≤ length m - at → unit_length wide (drop at m) ≤ length m - at - length_bytes wide
-      → unit_length wide (drop at m) < field_bytes kind → place_behind m at kind wide ≡ None
+      → unit_length wide (drop at m) < field_bytes kind → place_behind m at kind wide ≡ at
   unfolding place_behind unit_fits
   behind-bare h k l = rw (length-drop, le-leb _ _ h, le-leb _ _ k, lt-leb _ _ l)
 
+  pub next-bare : length_bytes wide ≤ length m - at → unit_length wide (drop at m) ≤ length m - at - length_bytes wide
+      → unit_length wide (drop at m) < field_bytes kind → next_place m at kind wide ≡ None
+  unfolding next_place unit_fits
+  next-bare h k l = rw (length-drop, le-leb _ _ h, le-leb _ _ k, lt-leb _ _ l)
+
   pub behind-whole : length_bytes wide ≤ length m - at → unit_length wide (drop at m) ≤ length m - at - length_bytes wide
-      → field_bytes kind ≤ unit_length wide (drop at m) → place_behind m at kind wide ≡ Some (unit_end m at wide)
+      → field_bytes kind ≤ unit_length wide (drop at m) → place_behind m at kind wide ≡ unit_end m at wide
   unfolding place_behind unit_fits
   behind-whole h k l = rw (length-drop, le-leb _ _ h, le-leb _ _ k, le-leb _ _ l)
 
-on-by : (t : Bool) (x n : ℕ) → cond t (Some x) None ≡ Some n → (t ≡ true) × (n ≡ x)
-on-by true x n h = (refl, cc)
-on-by false x n h = (cc, cc)
+  pub next-whole : length_bytes wide ≤ length m - at → unit_length wide (drop at m) ≤ length m - at - length_bytes wide
+      → field_bytes kind ≤ unit_length wide (drop at m) → next_place m at kind wide ≡ Some (unit_end m at wide)
+  unfolding next_place unit_fits
+  next-whole h k l = rw (length-drop, le-leb _ _ h, le-leb _ _ k, le-leb _ _ l)
 
-stays_by : (t : Bool) (x : ℕ) → cond t (Some x) None ≡ None → t ≡ false
-stays_by true x h = cc
-stays_by false x h = refl
+on-by : (t : Bool) (x at : ℕ) → at < cond t x at → (t ≡ true) × (cond t x at ≡ x)
+on-by true x at h = (refl, refl)
+on-by false x at h = absurd (omega arith)
+
+stays_by : (t : Bool) (x at : ℕ) → (t ≡ true → at < x) → cond t x at ≤ at → t ≡ false
+stays_by true x at f h = let l = f refl in absurd (omega arith)
+stays_by false x at f h = refl
+
+next-on_by : (t : Bool) (x n : ℕ) → cond t (Some x) None ≡ Some n → (t ≡ true) × (n ≡ x)
+next-on_by true x n h = (refl, cc)
+next-on_by false x n h = (cc, cc)
+
+next-stays_by : (t : Bool) (x : ℕ) → cond t (Some x) None ≡ None → t ≡ false
+next-stays_by true x h = cc
+next-stays_by false x h = refl
 
 -- a reader gets on exactly where a unit fits
 module _ (m : List ℕ) (at kind : ℕ) (wide : Bool) where
-  pub behind_on : (n : ℕ) → place_behind m at kind wide ≡ Some n
-      → (unit_fits (drop at m) kind wide ≡ true) × (n ≡ unit_end m at wide)
+  pub behind-on : at < place_behind m at kind wide
+      → (unit_fits (drop at m) kind wide ≡ true) × (place_behind m at kind wide ≡ unit_end m at wide)
   unfolding place_behind
-  behind_on n h = on-by (unit_fits (drop at m) kind wide) _ n h
+  behind-on h = on-by (unit_fits (drop at m) kind wide) _ at h
+
+  pub behind-stays : place_behind m at kind wide ≤ at → unit_fits (drop at m) kind wide ≡ false
+  unfolding place_behind
+  behind-stays h = stays_by (unit_fits (drop at m) kind wide) _ at (λ u. (unit-fits-end m at kind wide u).1) h
+
+  pub next_on : (n : ℕ) → next_place m at kind wide ≡ Some n
+      → (unit_fits (drop at m) kind wide ≡ true) × (n ≡ unit_end m at wide)
+  unfolding next_place
+  next_on n h = next-on_by (unit_fits (drop at m) kind wide) _ n h
 
   -- and the unit has room for its length and its fields
-  pub behind_room : (n : ℕ) → place_behind m at kind wide ≡ Some n → at + length_bytes wide + field_bytes kind ≤ length m
-  behind_room n h =
-      let f = unit-fits (drop at m) kind wide (behind_on n h).0 in
+  pub next_room : (n : ℕ) → next_place m at kind wide ≡ Some n → at + length_bytes wide + field_bytes kind ≤ length m
+  next_room n h =
+      let f = unit-fits (drop at m) kind wide (next_on n h).0 in
       let l = length-drop at m in
       let w = length-bytes_pos wide in
       omega arith
 
-  pub behind_stays : place_behind m at kind wide ≡ None → unit_fits (drop at m) kind wide ≡ false
+  pub next_stays : next_place m at kind wide ≡ None → unit_fits (drop at m) kind wide ≡ false
+  unfolding next_place
+  next_stays h = next-stays_by (unit_fits (drop at m) kind wide) _ h
+
+  -- both places are one where a unit stands; where none does, a reader stays
+  pub next_behind : (n : ℕ) → next_place m at kind wide ≡ Some n → place_behind m at kind wide ≡ n
   unfolding place_behind
-  behind_stays h = stays_by (unit_fits (drop at m) kind wide) _ h
+  next_behind n h = let o = next_on n h in rw o.0 (sym o.1)
+
+  pub none_behind : next_place m at kind wide ≡ None → place_behind m at kind wide ≡ at
+  unfolding place_behind
+  none_behind h = rw (next_stays h)
 
 fields-by : (timed item : Bool) (n : ℕ) (u : List ℕ) → cond timed 14 (cond item 4 0) ≤ n
     → cond timed (timed_fields (take n u)) (cond item (item_fields (take n u)) no_fields)
@@ -188,10 +233,16 @@ module _ (m : List ℕ) (at kind : ℕ) (wide : Bool) where
   fits-end l = let d = length-drop at m in rw (aggregate-none (drop at m) kind wide (omega arith))
 
   -- the walk of a reader: it gets on in the packet, or stands at the end exactly if the units fill it
-  pub walk_on : (n : ℕ) → place_behind m at kind wide ≡ Some n
+  pub walk_on : at < place_behind m at kind wide → (place_behind m at kind wide ≤ length m)
+      × ((aggregate (drop (place_behind m at kind wide) m) kind wide).fits ≡ (aggregate (drop at m) kind wide).fits)
+  walk_on h =
+      let b = behind-on m at kind wide h in
+      rw b.1 ((unit-fits-end m at kind wide b.0).0, fits_on b.0)
+
+  pub next_walks : (n : ℕ) → next_place m at kind wide ≡ Some n
       → (at < n) × (n ≤ length m) × ((aggregate (drop n m) kind wide).fits ≡ (aggregate (drop at m) kind wide).fits)
-  walk_on n h =
-      let b = behind_on m at kind wide n h in
+  next_walks n h =
+      let b = next_on m at kind wide n h in
       let e = unit-fits-end m at kind wide b.0 in
       rw b.1 (e.1, e.0, fits_on b.0)
 
@@ -200,8 +251,11 @@ module _ (m : List ℕ) (at kind : ℕ) (wide : Bool) where
   stands_by true e u = e ∙ sym (fits-end (leb-true _ _ e))
   stands_by false e u = e ∙ sym (fits_not (leb-false _ _ e) u)
 
-  pub walk_stands : place_behind m at kind wide ≡ None → leb (length m) at ≡ (aggregate (drop at m) kind wide).fits
-  walk_stands h = stands_by (leb (length m) at) refl (behind_stays m at kind wide h)
+  pub walk_stands : place_behind m at kind wide ≤ at → leb (length m) at ≡ (aggregate (drop at m) kind wide).fits
+  walk_stands h = stands_by (leb (length m) at) refl (behind-stays m at kind wide h)
+
+  pub next_stands : next_place m at kind wide ≡ None → leb (length m) at ≡ (aggregate (drop at m) kind wide).fits
+  next_stands h = stands_by (leb (length m) at) refl (next_stays m at kind wide h)
 
 module _ (m : List ℕ) (at kind : ℕ) (wide : Bool) (h : (aggregate (drop at m) kind wide).fits ≡ true) (l : at < length m) where
   next-by : (t : Bool) → unit_fits (drop at m) kind wide ≡ t → Next m at kind wide

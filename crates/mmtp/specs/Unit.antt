@@ -60,9 +60,13 @@ unit_fits b kind wide =
 abbrev pub unit_end : List ℕ → ℕ → Bool → ℕ
 unit_end m at wide = at + length_bytes wide + unit_length wide (drop at m)
 
--- the place behind the unit at `at`: where a reader that stands there is moved to; none where no whole unit stands
-unfoldable pub place_behind : List ℕ → ℕ → ℕ → Bool → Option ℕ
-place_behind m at kind wide = cond (unit_fits (drop at m) kind wide) (Some (unit_end m at wide)) None
+-- the place behind the unit at `at`: where a reader that stands there is moved to. Where no whole unit stands, it stays
+unfoldable pub place_behind : List ℕ → ℕ → ℕ → Bool → ℕ
+place_behind m at kind wide = cond (unit_fits (drop at m) kind wide) (unit_end m at wide) at
+
+-- the same place, and none where no whole unit stands
+unfoldable pub next_place : List ℕ → ℕ → ℕ → Bool → Option ℕ
+next_place m at kind wide = cond (unit_fits (drop at m) kind wide) (Some (unit_end m at wide)) None
 
 -- the unit at a place of an aggregate: its fields, and the place of its bytes
 unfoldable pub data_unit : List ℕ → ℕ → ℕ → Bool → DataUnit

@@ -1,6 +1,6 @@
 // Data units: the fields that each begins with, and aggregated units one by one.
 ghost use Rattle.std.specs.Prelude.{◌≡◌, ◌≤◌, length, drop};
-ghost use Rattle.mmtp.specs.Unit.{field_bytes, fields_of, length_bytes, unit_length, place_behind, unit_at, single_fits, single_at, aggregate_fits};
+ghost use Rattle.mmtp.specs.Unit.{field_bytes, fields_of, length_bytes, unit_length, place_behind, next_place, unit_at, single_fits, single_at, aggregate_fits};
 
 use crate::reader;
 use wire::field::Field;
@@ -90,10 +90,10 @@ fn unit_length(b: &[u8], wide: bool) -> usize
     }
 }
 
-// Where the aggregated unit at `at` ends, if it is whole and has its fields: the work of `reader::moved`.
-#[tactic(auto, unfolding(crate::specs::Unit::place_behind, crate::specs::Unit::unit_fits, crate::specs::Unit::length_bytes))]
-pub fn unit_end(m: &[u8], at: usize, kind: u8, wide: bool) -> Option<usize>
-    ensures { result ≡ place_behind m.now at kind wide }
+// Where the aggregated unit at `at` ends, if it is whole and has its fields: the work of `reader::next`.
+#[tactic(auto, unfolding(crate::specs::Unit::next_place, crate::specs::Unit::unit_fits, crate::specs::Unit::length_bytes))]
+pub fn whole_end(m: &[u8], at: usize, kind: u8, wide: bool) -> Option<usize>
+    ensures { result ≡ next_place m.now at kind wide }
 {
     let b = m.get(at..)?;
     let w = length_bytes(wide);
@@ -107,15 +107,23 @@ pub fn unit_end(m: &[u8], at: usize, kind: u8, wide: bool) -> Option<usize>
     Some(at + w + n)
 }
 
+// The same place; `at` itself where no whole unit stands: the work of `reader::moved`.
+#[tactic(auto, using(crate::proofs::UnitLaws::next_behind, crate::proofs::UnitLaws::none_behind))]
+pub fn unit_end(m: &[u8], at: usize, kind: u8, wide: bool) -> usize
+    ensures { result ≡ place_behind m.now at kind wide }
+{
+    whole_end(m, at, kind, wide).unwrap_or(at)
+}
+
 // The aggregated unit at `at`.
-#[tactic(auto, using(crate::proofs::UnitLaws::behind_on, crate::proofs::UnitLaws::behind_room, crate::proofs::UnitLaws::behind_stays), unfolding(crate::specs::Unit::unit_at, crate::specs::Unit::data_unit))]
+#[tactic(auto, using(crate::proofs::UnitLaws::next_on, crate::proofs::UnitLaws::next_room, crate::proofs::UnitLaws::next_stays), unfolding(crate::specs::Unit::unit_at, crate::specs::Unit::data_unit))]
 pub fn unit_at(m: &[u8], at: usize, kind: u8, wide: bool) -> Step
     ensures { result ≡ unit_at m.now at kind wide }
 {
     if m.len() <= at {
         return Step::End;
     }
-    let Some(end) = reader::place_behind(m, at, kind, wide) else {
+    let Some(end) = reader::next_place(m, at, kind, wide) else {
         return Step::Malformed;
     };
     let from = at + length_bytes(wide);

@@ -3,11 +3,11 @@ use Rattle.std.proofs.Common.{sym, ◌∙◌}
 use borrow.Author.Tests.{lt-leb}
 use Rattle.wire.proofs.MemoryLaws.{slice-rest}
 use Rattle.mmtp.specs.Unit.{unit_at, data_unit}
-use Rattle.mmtp.proofs.UnitLaws.{behind_on}
+use Rattle.mmtp.proofs.UnitLaws.{next_on}
 use Rattle.mmtp.proofs.unit.unit_at.Goals as goal
 
 pub returns : goal.returns
 unfolding unit_at data_unit
 returns c =
-    let e = behind_on _ _ _ _ _ (sym c.place_behind.ensures ∙ c.in-Some.is) in
+    let e = next_on _ _ _ _ _ (sym c.next_place.ensures ∙ c.in-Some.is) in
     rw (lt-leb _ _ c.if-m-at.false, e.0, e.1, c.fields_of.ensures, slice-rest, c.length_bytes.ensures, c.field_bytes.ensures)
