@@ -1,12 +1,12 @@
 // Lines of the events that next gives, while there is room.
 ghost use Rattle.std.specs.Prelude.{◌≡◌, ◌+◌, ◌≤◌, length};
-ghost use Rattle.queue.specs.Event.{as_given};
+ghost use Rattle.queue.specs.Event.{as_given, as_answer};
 ghost use Rattle.lines.specs.Line.{longest_line};
 ghost use Rattle.lines.specs.Text.{Put};
 ghost use Rattle.state.specs.Words.{state_words};
 ghost use Rattle.capture.specs.Session.{busy, session_in};
 ghost use Rattle.capture.specs.Capture.{event_line, tallied};
-ghost use Rattle.capture.specs.Words.{Pours, PoursOr};
+ghost use Rattle.capture.specs.Words.{closed_values, Pours, PoursOr};
 ghost use Rattle.capture.specs.Steps.{roomy, Drains, poured_of};
 
 use crate::session::{Phase, Progress, Session, Tally, end};
@@ -41,19 +41,32 @@ fn put_event(out: &mut [u8], at: usize, tally: Tally, event: Event) -> usize
     }
 }
 
+// The counts after what next answered: a note or a unit counts, that nothing waits and a refusal do not.
 #[tactic(auto, unfolding(crate::specs::Capture::tallied))]
-pub fn count(tally: Tally, event: Event) -> Tally
-    ensures { result ≡ tallied tally (as_given event) }
+pub fn count(tally: Tally, answer: Result<Option<Event>, Refusal>) -> Tally
+    ensures { result ≡ tallied tally (as_answer answer) }
 {
-    match event {
-        Event::Note(_, _) => Tally {
+    match answer {
+        Ok(Some(Event::Note(_, _))) => Tally {
             notes: tally.notes.wrapping_add(1),
             ..tally
         },
-        Event::Unit(_) => Tally {
+        Ok(Some(Event::Unit(_))) => Tally {
             units: tally.units.wrapping_add(1),
             ..tally
         },
+        Ok(None) | Err(_) => tally,
+    }
+}
+
+// The session after what next answered: a refusal ends it.
+#[tactic(auto, unfolding(crate::specs::Words::closed_values))]
+pub fn close(session: Session, answer: Result<Option<Event>, Refusal>) -> Session
+    ensures { result ≡ closed_values session (as_answer answer) }
+{
+    match answer {
+        Ok(_) => session,
+        Err(_) => end(session),
     }
 }
 
@@ -78,7 +91,7 @@ fn drain(
             break;
         };
         place = put_event(out, place, tally, event);
-        tally = count(tally, event);
+        tally = count(tally, Ok(Some(event)));
     }
     Progress {
         session: Session { tally, ..session },
