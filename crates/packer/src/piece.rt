@@ -16,9 +16,10 @@ pub fn count(len: usize, m: usize) -> usize
     ensures { result ≡ count_by max_pieces m len }
 {
     let mut left = len;
-    for n in 1..=MAX_PIECES {
+    // In 16 bits: over a number of 64 the compiler takes sixteen turns at once, and a unit of one piece pays for all of them.
+    for n in 1..=MAX_PIECES as u16 {
         if left <= m {
-            return n;
+            return usize::from(n);
         }
         left -= m;
     }

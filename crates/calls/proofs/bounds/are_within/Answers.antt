@@ -1,19 +1,25 @@
--- Why are_within meets its contract: too few words, or the test of each word.
-use Rattle.std.proofs.Common.{rules, tests, sym, ◌∙◌}
-use Rattle.std.proofs.lemmas.Bool.{lt-leb}
-use Rattle.std.proofs.lemmas.Iterator.{YieldsList-from_slice, YieldsList-from_zip}
-use Rattle.std.proofs.lemmas.Iterator.Search.{all_from_yields_List}
-use Rattle.calls.proofs.BoundsLaws.{within-few, within-zip}
+use mathlib.Core.Path.{refl, sym, ◌∙◌}
+use native.Mathlib.Omega.{arith}
+use Rattle.calls.proofs.BoundsLaws.{within-few, within-above, within_on, within_end}
 use Rattle.calls.proofs.bounds.are_within.Goals as goal
 
-pub returns-then-most-t : goal.returns-then-most-t
-returns-then-most-t c =
-    all_from_yields_List (λ p. lib.Dec.leb p.1 p.0) c.all.new.self _ c.all.result c.all.ensures.ran
-    (YieldsList-from_zip (YieldsList-from_slice c.args.most.now cc) (YieldsList-from_slice c.args.t.now cc))
-    (λ x b q k. search (rules, tests))
-    ∙ within-zip _ _ c.if-most-t.true
+pub returns-then-t-most : goal.returns-then-t-most
+returns-then-t-most c = sym (within-few _ _ c.if-t-most.true)
 
-pub returns-else-most-t : goal.returns-else-most-t
-returns-else-most-t c =
-    let few = c.if-most-t.false in
-    lt-leb _ _ few ∙ sym (within-few _ _ few)
+pub loop-k-init : goal.loop-k-init
+loop-k-init c = (c.if-t-most.false, refl)
+
+pub returns-then-most-k : goal.returns-then-most-k
+returns-then-most-k c =
+    let l = c.loop-k in
+    sym (within-above _ _ l.k (omega (arith, l.invariant)) (omega (arith, l.invariant)) c.if-most-k.true) ∙ l.invariant.1
+
+pub loop-k-preserved : goal.loop-k-preserved
+loop-k-preserved c =
+    let l = c.loop-k in
+    (l.invariant.0, sym (within_on _ _ l.k (omega (arith, l.invariant)) (omega (arith, l.invariant)) c.if-most-k.false) ∙ l.invariant.1)
+
+pub returns : goal.returns
+returns c =
+    let l = c.loop-k in
+    sym (within_end _ _ l.k (omega (arith, l.invariant))) ∙ l.invariant.1

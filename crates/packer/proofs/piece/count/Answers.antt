@@ -2,6 +2,7 @@ use Rattle.std.proofs.Common.{◌≡◌, suc, ◌+◌, ◌-◌, add_comm, arith}
 use Rattle.packer.proofs.Pieces.{count_stop, count-last, count_next}
 use Rattle.packer.proofs.piece.count.Invariants.{stop}
 use Rattle.packer.proofs.piece.count.Goals as goal
+use Rattle.packer.proofs.piece.count.Goals.{else-loop-n-test, then-loop-n-test+else-left-m+else-n-lt65535}
 
 pub loop-n-init : goal.loop-n-init
 loop-n-init c = add_comm 1 _
@@ -23,6 +24,11 @@ returns-then-left-m c =
 pub returns : goal.returns
 returns c =
     let l = c.loop-n in
-    let e : stop - l.n ≡ 0 = omega arith in
-    let i = rw (e, count_stop c.args.m l.left) at l.invariant in
-    omega (arith, i)
+    elim c.loop-n-test.branch [
+      | else-loop-n-test w ↦ absurd (omega (arith, l.auto.n-end (omega arith), w.loop-n-test))
+      | then-loop-n-test+else-left-m+else-n-lt65535 w ↦
+          let e : stop - l.n ≡ 1 = omega arith in
+          let s = count_next 0 c.args.m l.left w.if-left-m.false in
+          let i = rw (e, s, count_stop c.args.m (l.left - c.args.m)) at l.invariant in
+          omega (arith, i)
+    ]
